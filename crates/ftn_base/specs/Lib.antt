@@ -1,0 +1,6 @@
+pub mod Letters
+pub mod Names
+pub mod Places
+pub mod Keywords
+pub mod Files
+pub mod FaultNames
