@@ -1,0 +1,4 @@
+pub mod Placing
+pub mod Putting
+pub mod Reading
+pub mod Taking

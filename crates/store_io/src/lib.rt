@@ -1,0 +1,27 @@
+//! The outside: stores of files, sources of bytes and sinks for them, in memory and of the system.
+#![tactic(auto)]
+
+mod dir_store;
+mod failing;
+mod fault;
+mod mem_sink;
+mod mem_source;
+mod mem_store;
+mod sink;
+mod source;
+mod std_sink;
+mod std_source;
+mod store;
+#[cfg(test)]
+mod tests;
+
+pub use dir_store::DirStore;
+pub use fault::{Failed, ListFault, ReadFault, SinkFault};
+pub use mem_sink::MemSink;
+pub use mem_source::MemSource;
+pub use mem_store::{MemStore, mem_store_never_fails};
+pub use sink::{Sink, write_all};
+pub use source::Source;
+pub use std_sink::StdSink;
+pub use std_source::StdSource;
+pub use store::Store;
