@@ -1,0 +1,12 @@
+pub mod Rows
+pub mod Loops
+pub mod Whole
+pub mod ReadBack
+pub mod ReadTrue
+pub mod LowerRows
+pub mod CleanRows
+pub mod CleanLaws
+pub mod OneProgram
+pub mod PlainLaws
+pub mod PiecesLaws
+pub mod ScanSteps

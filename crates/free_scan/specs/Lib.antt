@@ -1,0 +1,10 @@
+pub mod Lines
+pub mod Pieces
+pub mod Tokens
+pub mod Spelling
+pub mod Clean
+pub mod Reading
+pub mod Fresh
+pub mod FirstForm
+pub mod PlainWalk
+pub mod Onward

@@ -1,0 +1,30 @@
+-- Lines of a text (Fortran 90, 3.3.1). Each has its LF; the last one may lack it.
+use Rattle.std.specs.Prelude.{ℕ, ◌+◌, Bool, ◌&&◌, ◌||◌, ◌==◌, nat_le, List, [], ◌∷◌, length, if◌then◌else◌}
+use Rattle.std.specs.List.{list_all, ends_with}
+use Rattle.ftn_base.specs.Letters.{is_within}
+
+-- x in front of the first list
+abbrev pub onto_first : {X : Type 0} → X → List (List X) → List (List X)
+onto_first x [] = (x ∷ []) ∷ []
+onto_first x (xs ∷ rest) = (x ∷ xs) ∷ rest
+
+abbrev pub is_line_feed : ℕ → Bool
+is_line_feed b = b == 10
+
+abbrev pub lines : List ℕ → List (List ℕ)
+lines [] = []
+lines (b ∷ rest) = if is_line_feed b then (b ∷ []) ∷ lines rest else onto_first b (lines rest)
+
+-- how many bytes a line may have before its LF
+abbrev pub line_limit : ℕ
+line_limit = 132
+
+abbrev pub is_plain_byte : ℕ → Bool
+is_plain_byte b = is_line_feed b || is_within 32 126 b
+
+-- a line that ends with LF, has at most 132 bytes before it, and has no byte but printable ones and spaces
+abbrev pub is_plain_line : List ℕ → Bool
+is_plain_line line = ends_with ◌==◌ line (10 ∷ []) && nat_le (length line) (line_limit + 1) && list_all is_plain_byte line
+
+abbrev pub is_plain : List ℕ → Bool
+is_plain text = list_all is_plain_line (lines text)

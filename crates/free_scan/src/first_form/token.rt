@@ -1,0 +1,251 @@
+//! Pieces and tokens of a text.
+
+ghost use Rattle.std.specs.List.{list_any, prefix_len, sum_by};
+ghost use Rattle.std.specs.Prelude.{◌≡◌, ◌<◌, ◌≤◌, ◌^◌, ◌+◌, ◌++◌, ◌∷◌, ◌↔◌, ℕ, List, [], Some, not, length, IfOk, OnOk, IfSome};
+ghost use Rattle.std.specs.Str.{bytes_eq};
+ghost use Rattle.ftn_base.specs.Letters.{is_digit as digit, is_name_byte as name_byte};
+ghost use Rattle.free_scan.specs.Lines.{is_line_feed};
+ghost use Rattle.free_scan.specs.Pieces as pieces;
+ghost use Rattle.free_scan.specs.Tokens as tokens;
+ghost use Rattle.free_scan.specs.Tokens.{keep_if, tokens_of};
+
+use ftn_base::{Bytes, NoMemory, Range, folded, is_digit, is_letter, is_name_byte};
+use sqlite_items::Items;
+use std::alloc::Global;
+
+/// What a piece of a text is. A token is a piece that is no blank and no comment; the end of a line counts as one here.
+#[derive(Clone, Copy, Debug, PartialEq, Eq)]
+pub enum PieceKind {
+    /// One blank.
+    Blank,
+    /// From `!` to the end of the line, which is no part of it (3.3.1.1).
+    Comment,
+    /// One LF.
+    LineEnd,
+    /// A letter and the letters, digits and underscores after it (3.2.1, 3.2.4).
+    Word,
+    /// A row of digits (3.2.2).
+    Whole,
+    /// An operator or another mark, of one byte or two (3.2.3, 3.2.6).
+    Mark,
+}
+
+/// A token with its place.
+#[derive(Debug, Drop)]
+pub struct Token {
+    /// What it is.
+    pub kind: PieceKind,
+    /// Its bytes in the text.
+    pub range: Range,
+    /// The line of its first byte, from 1.
+    pub line: u32,
+    /// The word in lower case, or else the token's bytes.
+    pub value: Bytes,
+}
+
+/// Two bytes that make one mark (3.2.3, 3.2.6).
+const PAIRS: [&[u8]; 10] = [
+    b"**", b"//", b"==", b"/=", b"<=", b">=", b"=>", b"::", b"(/", b"/)",
+];
+
+/// How many bytes stand before the next LF.
+fn count_to_line_end(rest: &[u8]) -> usize
+    ensures { result ≡ prefix_len (λ c. not (is_line_feed c)) rest.now }
+{
+    rest.iter().take_while(|byte| **byte != b'\n').count()
+}
+
+/// How many letters, digits and underscores stand in front.
+fn count_name_bytes(rest: &[u8]) -> usize
+    ensures { result ≡ prefix_len name_byte rest.now }
+{
+    rest.iter().take_while(|byte| is_name_byte(**byte)).count()
+}
+
+/// How many digits stand in front.
+fn count_digits(rest: &[u8]) -> usize
+    ensures { result ≡ prefix_len digit rest.now }
+{
+    rest.iter().take_while(|byte| is_digit(**byte)).count()
+}
+
+/// Whether the pair is these two bytes.
+fn is_text(pair: &[u8], first: u8, second: u8) -> bool
+    ensures { result ≡ bytes_eq pair.now (first ∷ second ∷ []) }
+{
+    pair == [first, second].as_slice()
+}
+
+/// Whether one of the pairs is these two bytes.
+fn is_one_of(pairs: &[&[u8]], first: u8, second: u8) -> bool
+    ensures { result ≡ list_any (λ pair. bytes_eq pair.now (first ∷ second ∷ [])) pairs.now }
+{
+    pairs.iter().any(|pair| is_text(pair, first, second))
+}
+
+/// Whether the two bytes make one mark.
+fn is_pair(first: u8, second: u8) -> bool
+    ensures { result ≡ pieces.is_pair first second }
+{
+    is_one_of(&PAIRS, first, second)
+}
+
+/// Whether the byte is a mark by itself.
+fn is_mark(byte: u8) -> bool
+    ensures { result ≡ pieces.is_mark byte }
+{
+    b"(),=+-*/<>:%".iter().any(|mark| *mark == byte)
+}
+
+/// The mark that begins with this byte, and what follows it.
+fn mark_at(first: u8, rest: &[u8]) -> Option<(PieceKind, usize)>
+    ensures { result ≡ pieces.mark_at first rest.now }
+{
+    if let [second, ..] = rest {
+        if is_pair(first, *second) {
+            return Some((PieceKind::Mark, 2));
+        }
+    }
+    if is_mark(first) {
+        Some((PieceKind::Mark, 1))
+    } else {
+        None
+    }
+}
+
+/// The piece that begins with this byte, and what follows it.
+#[tactic(auto, using(crate::proofs::PiecesLaws::run_fits))]
+fn piece_at(first: u8, rest: &[u8]) -> Option<(PieceKind, usize)>
+    ensures { result ≡ pieces.front (first ∷ rest.now) }
+{
+    if first == b'\n' {
+        Some((PieceKind::LineEnd, 1))
+    } else if first == b' ' {
+        Some((PieceKind::Blank, 1))
+    } else if first == b'!' {
+        Some((PieceKind::Comment, 1 + count_to_line_end(rest)))
+    } else if is_letter(first) {
+        Some((PieceKind::Word, 1 + count_name_bytes(rest)))
+    } else if is_digit(first) {
+        Some((PieceKind::Whole, 1 + count_digits(rest)))
+    } else {
+        mark_at(first, rest)
+    }
+}
+
+/// The piece at the front of the text, as long as possible, and how many bytes it has.
+fn front(text: &[u8]) -> Option<(PieceKind, usize)>
+    ensures piece { result ≡ pieces.front text.now }
+    ensures size { IfSome result (λ piece. (1 ≤ piece.1) × (piece.1 ≤ length text.now)) }
+{
+    match text {
+        [] => None,
+        [first, rest @ ..] => piece_at(*first, rest),
+    }
+}
+
+/// Whether a piece of that kind is a token.
+fn is_token(kind: PieceKind) -> bool
+    ensures { result ≡ tokens.is_token kind }
+{
+    !matches!(kind, PieceKind::Blank | PieceKind::Comment)
+}
+
+/// The line after a piece that begins on this one.
+fn line_after(line: u32, kind: PieceKind) -> u32
+    requires { line + 1 < 2 ^ 32 }
+    ensures line { result ≡ tokens.line_after line kind }
+    ensures next { result ≤ line + 1 }
+{
+    if kind == PieceKind::LineEnd {
+        line + 1
+    } else {
+        line
+    }
+}
+
+/// What a token of that kind says: the word in lower case, or else its bytes.
+fn value_of(alloc: Global, kind: PieceKind, bytes: &[u8]) -> Result<Bytes, NoMemory>
+    ensures { IfOk result (λ made. made ≡ tokens.value_of kind bytes.now) }
+{
+    if kind == PieceKind::Word {
+        Ok(Bytes::from_vec(folded(alloc, bytes)?))
+    } else {
+        Bytes::from_slice(alloc, bytes)
+    }
+}
+
+/// The token of that kind and size at the front of the rest of a text, which begins at that offset and on that line.
+fn make_token(
+    alloc: Global,
+    at: u32,
+    line: u32,
+    kind: PieceKind,
+    rest: &[u8],
+    size: usize,
+) -> Result<Token, NoMemory>
+    requires within { size ≤ length rest.now }
+    requires fits { at + size < 2 ^ 32 }
+    ensures { IfOk result (λ made. made ≡ tokens.token at line kind rest.now size) }
+{
+    let value = value_of(alloc, kind, &rest[..size])?;
+    let range = Range {
+        start: at,
+        end: at + size as u32,
+    };
+    Ok(Token {
+        kind,
+        range,
+        line,
+        value,
+    })
+}
+
+/// Keeps the piece of that kind and size at the front of the rest of a text, if it is a token.
+fn keep(
+    found: &mut Items<Token>,
+    alloc: Global,
+    at: u32,
+    line: u32,
+    kind: PieceKind,
+    rest: &[u8],
+    size: usize,
+) -> Result<(), NoMemory>
+    requires within { size ≤ length rest.now }
+    requires fits { at + size < 2 ^ 32 }
+    ensures { OnOk result (found.new ≡ found.old ++ keep_if (tokens.is_token kind) (tokens.token at line kind rest.now size) []) }
+{
+    if is_token(kind) {
+        let token = make_token(alloc, at, line, kind, rest, size)?;
+        found.push(token)?;
+    }
+    Ok(())
+}
+
+/// The tokens of a text, ends of lines among them, or nothing where some byte begins no piece of first form.
+pub fn scan(alloc: Global, text: &[u8]) -> Result<Option<Items<Token>>, NoMemory>
+    requires { length text.now + 2 < 2 ^ 32 }
+    ensures { IfOk result (λ found. found ≡ tokens_of text.now) }
+{
+    let mut found = Items::new(alloc);
+    let mut at: usize = 0;
+    let mut line: u32 = 1;
+    'pieces: while at < text.len() {
+        let rest = &text[at..];
+        let Some((kind, size)) = front(rest) else {
+            return Ok(None);
+        };
+        keep(&mut found, alloc, at as u32, line, kind, rest, size)?;
+        line = line_after(line, kind);
+        at += size;
+    }
+    Ok(Some(found))
+}
+
+/// No text can be read as pieces in two ways: the pieces that are computed are the only ones. Each has a byte at least,
+/// and joined they are the text, none of its bytes left out (3.3.1).
+pub fn pieces_are_unique()
+    ensures once { (text : List ℕ) (ps : List pieces.Piece) → (pieces.pieces_of text ≡ Some ps) ↔ pieces.ArePieces text ps }
+    ensures sized { (text : List ℕ) (piece : pieces.Piece) → pieces.front text ≡ Some piece → (1 ≤ piece.1) × (piece.1 ≤ length text) }
+    ensures joined { (text : List ℕ) (ps : List pieces.Piece) → pieces.ArePieces text ps → sum_by (λ piece. piece.1) ps ≡ length text }
+{}

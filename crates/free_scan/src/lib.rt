@@ -1,0 +1,4 @@
+//! Reading free source form (Fortran 90, 3.3): pieces, tokens, and programs in first form.
+#![tactic(auto)]
+
+pub mod first_form;
