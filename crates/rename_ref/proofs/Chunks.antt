@@ -1,0 +1,198 @@
+-- A text as the bytes of its pieces in turn, and its tokens by these.
+use Rattle.std.proofs.Common.{◌≡◌, ℕ, zero, suc, ◌+◌, ◌≤◌, Bool, true, false, cond, not, ◌&&◌, List, [], ◌∷◌, ◌++◌, map, length, take, drop, filter, Option, Some, None, refl, sym, ap, ◌∙◌, arith, bytes_eq, option_map, option_and_then, take-append-drop, length-append}
+use Rattle.std.proofs.lemmas.List.{take_at, drop_at, length-take-le}
+use Rattle.std.proofs.lemmas.Slice.Eq.{bytes_eq-Decides}
+use Rattle.ftn_base.specs.Letters.{folded}
+use Rattle.ftn_base.specs.Keywords.{is_keyword}
+use Rattle.free_scan.specs.Pieces.{Piece, front, pieces_within, pieces_of}
+use Rattle.free_scan.specs.Tokens.{value_of, is_token, line_after, keep_if, tokens_from, tokens_of}
+use Rattle.free_scan.specs.declared.first_form.token.PieceKind.{PieceKind}
+use Rattle.free_scan.specs.declared.first_form.token.PieceKind.TheVariants.{Blank, Comment, LineEnd, Word, Whole, Mark}
+use Rattle.free_scan.specs.declared.first_form.token.Token.{Token}
+use Rattle.rename_ref.specs.Names.{is_word, is_name_token, name_tokens, denoting}
+use Rattle.rename_ref.proofs.Fronts.{front_some}
+
+-- a piece with its bytes
+abbrev pub Chunk : Type 0
+Chunk = PieceKind × List ℕ
+
+-- the text that the pieces make
+abbrev pub joined : List Chunk → List ℕ
+joined [] = []
+joined (c ∷ cs) = c.1 ++ joined cs
+
+-- what the piece is, and how many bytes it has
+abbrev pub sized : Chunk → Piece
+sized c = (c.0, length c.1)
+
+-- each piece stands at the front of what is left
+abbrev pub AreFronts : List Chunk → Type 0
+AreFronts [] = Unit {0}
+AreFronts (c ∷ cs) = (front (c.1 ++ joined cs) ≡ Some (c.0, length c.1)) × AreFronts cs
+
+-- ---- options
+
+-- the value of a step that gave one
+and_then_some : {A B : Type 0} (f : A → Option B) (o : Option A) (y : B) → option_and_then f o ≡ Some y → (x : A) × (o ≡ Some x) × (f x ≡ Some y)
+and_then_some f None y e = absurd cc
+and_then_some f (Some x) y e = (x, refl, e)
+
+-- the value under a map that gave one
+pub map_some : {A B : Type 0} (f : A → B) (o : Option A) (y : B) → option_map f o ≡ Some y → (x : A) × (o ≡ Some x) × (f x ≡ y)
+map_some f None y e = absurd cc
+map_some f (Some x) y e = (x, refl, cc)
+
+-- one value that is there is one value
+pub some_is : {A : Type 0} (x y : A) → Some x ≡ Some y → x ≡ y
+some_is x y e = cc
+
+-- ---- a text and its pieces
+
+-- the piece at the front with its bytes, before the pieces of what is left
+first_piece : (text : List ℕ) (piece : Piece) (cs : List Chunk) → front text ≡ Some piece → joined cs ≡ drop piece.1 text → AreFronts cs
+    → (joined ((piece.0, take piece.1 text) ∷ cs) ≡ text) × AreFronts ((piece.0, take piece.1 text) ∷ cs) × (sized (piece.0, take piece.1 text) ≡ piece)
+first_piece text piece cs e j fs =
+    let s = front_some text piece.0 piece.1 e in
+    let len : length (take piece.1 text) ≡ piece.1 = length-take-le piece.1 text s.1 in
+    let whole : take piece.1 text ++ joined cs ≡ text = ap (λ (u : List ℕ). take piece.1 text ++ u) j ∙ take-append-drop piece.1 text in
+    let size : sized (piece.0, take piece.1 text) ≡ piece = ap (λ (n : ℕ). pair piece.0 n) len in
+    (whole, (ap front whole ∙ e ∙ ap (λ (p : Piece). Some p) (sym size), fs), size)
+  where
+    pair : PieceKind → ℕ → Piece
+    pair k n = (k, n)
+
+-- a text that has pieces is what they make
+pub pieces_cut : (n : ℕ) (text : List ℕ) (ps : List Piece) → pieces_within n text ≡ Some ps → (cs : List Chunk) × (joined cs ≡ text) × AreFronts cs × (map sized cs ≡ ps)
+pieces_cut n [] ps e = ([], refl, tt, some_is [] ps e)
+pieces_cut zero (b ∷ rest) ps e = absurd cc
+pieces_cut (suc n) (b ∷ rest) ps e =
+    let text : List ℕ = b ∷ rest in
+    let a = and_then_some (λ (piece : Piece). option_map (λ (pieces : List Piece). piece ∷ pieces) (pieces_within n (drop piece.1 text))) (front text) ps e in
+    let m = map_some (λ (pieces : List Piece). a.0 ∷ pieces) (pieces_within n (drop a.0.1 text)) ps a.2 in
+    let r = pieces_cut n (drop a.0.1 text) m.0 m.1 in
+    let f = first_piece text a.0 r.0 a.1 r.1 r.2 in
+    ((a.0.0, take a.0.1 text) ∷ r.0, f.0, f.1, cc (f.2, r.3, m.2))
+
+-- pieces that stand each at the front are the pieces of the text that they make
+pub pieces_back : (cs : List Chunk) → AreFronts cs → (n : ℕ) → length (joined cs) ≤ n → pieces_within n (joined cs) ≡ Some (map sized cs)
+pieces_back [] fs n le = refl
+pieces_back ((k, []) ∷ cs) fs n le = let s = front_some (joined cs) k 0 fs.0 in absurd (omega arith)
+pieces_back ((k, b ∷ w) ∷ cs) fs zero le = absurd (omega arith)
+pieces_back ((k, b ∷ w) ∷ cs) fs (suc n) le =
+    let len : length (w ++ joined cs) ≡ length w + length (joined cs) = length-append w (joined cs) in
+    let r : pieces_within n (joined cs) ≡ Some (map sized cs) = pieces_back cs fs.1 n (omega arith) in
+    rw (fs.0, drop_at w (joined cs) (length w) refl, r) refl
+
+-- ---- its tokens
+
+-- the token that the piece is at that offset and on that line
+abbrev pub token_at : ℕ → ℕ → Chunk → Token
+token_at at line c = record { kind = c.0; range = record { start = at; end = at + length c.1 }; line = line; value = value_of c.0 c.1 }
+
+-- the tokens of a text that begins at that offset and on that line
+abbrev pub tokens_in : ℕ → ℕ → List Chunk → List Token
+tokens_in at line [] = []
+tokens_in at line (c ∷ cs) = keep_if (is_token c.0) (token_at at line c) (tokens_in (at + length c.1) (line_after line c.0) cs)
+
+-- these are the tokens of the text
+pub tokens_in_is : (at line : ℕ) (cs : List Chunk) → tokens_from at line (joined cs) (map sized cs) ≡ tokens_in at line cs
+tokens_in_is at line [] = refl
+tokens_in_is at line (c ∷ cs) =
+    let r = tokens_in_is (at + length c.1) (line_after line c.0) cs in
+    rw (take_at c.1 (joined cs) (length c.1) refl, drop_at c.1 (joined cs) (length c.1) refl, r) refl
+
+-- a text that has tokens is made of pieces that have these
+pub text_cut : (text : List ℕ) (tokens : List Token) → tokens_of text ≡ Some tokens → (cs : List Chunk) × (joined cs ≡ text) × AreFronts cs × (tokens_in 0 1 cs ≡ tokens)
+text_cut text tokens e =
+    let m = map_some (tokens_from 0 1 text) (pieces_of text) tokens e in
+    let r = pieces_cut (length text) text m.0 m.1 in
+    let t : tokens_from 0 1 (joined r.0) (map sized r.0) ≡ tokens_in 0 1 r.0 = tokens_in_is 0 1 r.0 in
+    (r.0, r.1, r.2, sym t ∙ ap (λ (u : List ℕ). tokens_from 0 1 u (map sized r.0)) r.1 ∙ ap (tokens_from 0 1 text) r.3 ∙ m.2)
+
+-- the tokens of the text that pieces make
+pub tokens_of_joined : (cs : List Chunk) → AreFronts cs → tokens_of (joined cs) ≡ Some (tokens_in 0 1 cs)
+tokens_of_joined cs fs =
+    let p : pieces_within (length (joined cs)) (joined cs) ≡ Some (map sized cs) = pieces_back cs fs (length (joined cs)) (omega arith) in
+    ap (option_map (tokens_from 0 1 (joined cs))) p ∙ ap (λ (ts : List Token). Some ts) (tokens_in_is 0 1 cs)
+
+-- ---- its name tokens
+
+-- whether a piece is a name
+abbrev pub is_name_chunk : Chunk → Bool
+is_name_chunk c = is_word c.0 && not (is_keyword (folded c.1))
+
+-- whether it is that word
+abbrev pub is_old : List ℕ → Chunk → Bool
+is_old old c = is_word c.0 && bytes_eq (folded c.1) old
+
+-- the tokens of the pieces that pass
+abbrev pub tokens_where : (Chunk → Bool) → ℕ → ℕ → List Chunk → List Token
+tokens_where p at line [] = []
+tokens_where p at line (c ∷ cs) = cond (p c) (token_at at line c ∷ tokens_where p (at + length c.1) (line_after line c.0) cs) (tokens_where p (at + length c.1) (line_after line c.0) cs)
+
+-- a filter of tokens by a test that passes words alone
+filter_keep : (p : Token → Bool) (q : Chunk → Bool) (at line : ℕ) (c : Chunk) (ts : List Token) → p (token_at at line c) ≡ q c → (is_token c.0 ≡ false → q c ≡ false)
+    → filter p (keep_if (is_token c.0) (token_at at line c) ts) ≡ cond (q c) (token_at at line c ∷ filter p ts) (filter p ts)
+filter_keep p q at line c ts same none = go (is_token c.0) none
+  where
+    go : (t : Bool) → (t ≡ false → q c ≡ false) → filter p (keep_if t (token_at at line c) ts) ≡ cond (q c) (token_at at line c ∷ filter p ts) (filter p ts)
+    go true h = ap (λ (b : Bool). cond b (token_at at line c ∷ filter p ts) (filter p ts)) same
+    go false h = let e : q c ≡ false = h refl in rw e refl
+
+-- the tokens that pass a test that only words pass are those of the pieces that pass
+filter_tokens : (p : Token → Bool) (q : Chunk → Bool) → ((at line : ℕ) (c : Chunk) → p (token_at at line c) ≡ q c) → ((c : Chunk) → is_token c.0 ≡ false → q c ≡ false)
+    → (at line : ℕ) (cs : List Chunk) → filter p (tokens_in at line cs) ≡ tokens_where q at line cs
+filter_tokens p q same none at line [] = refl
+filter_tokens p q same none at line (c ∷ cs) =
+    let r = filter_tokens p q same none (at + length c.1) (line_after line c.0) cs in
+    filter_keep p q at line c (tokens_in (at + length c.1) (line_after line c.0) cs) (same at line c) (none c)
+    ∙ ap (λ (ts : List Token). cond (q c) (token_at at line c ∷ ts) ts) r
+
+-- a test of words, as one of pieces
+word_test : (p : List ℕ → Bool) (at line : ℕ) (c : Chunk) → (is_word (token_at at line c).kind && p (token_at at line c).value) ≡ (is_word c.0 && p (folded c.1))
+word_test p at line (Blank, w) = refl
+word_test p at line (Comment, w) = refl
+word_test p at line (LineEnd, w) = refl
+word_test p at line (Word, w) = refl
+word_test p at line (Whole, w) = refl
+word_test p at line (Mark, w) = refl
+
+-- what is no token is no word
+no_word : (p : List ℕ → Bool) (c : Chunk) → is_token c.0 ≡ false → (is_word c.0 && p (folded c.1)) ≡ false
+no_word p (Blank, w) e = refl
+no_word p (Comment, w) e = refl
+no_word p (LineEnd, w) e = absurd cc
+no_word p (Word, w) e = absurd cc
+no_word p (Whole, w) e = absurd cc
+no_word p (Mark, w) e = absurd cc
+
+-- the name tokens of a text are those of its names
+pub name_tokens_in : (at line : ℕ) (cs : List Chunk) → name_tokens (tokens_in at line cs) ≡ tokens_where is_name_chunk at line cs
+name_tokens_in at line cs = filter_tokens is_name_token is_name_chunk (word_test (λ v. not (is_keyword v))) (no_word (λ v. not (is_keyword v))) at line cs
+
+-- two filters are one
+filter_filter : {X : Type 0} (p q : X → Bool) (xs : List X) → filter q (filter p xs) ≡ filter (λ x. p x && q x) xs
+filter_filter p q [] = refl
+filter_filter p q (x ∷ xs) = go (p x) (filter_filter p q xs)
+  where
+    go : (t : Bool) → filter q (filter p xs) ≡ filter (λ x. p x && q x) xs → filter q (cond t (x ∷ filter p xs) (filter p xs)) ≡ cond (t && q x) (x ∷ filter (λ x. p x && q x) xs) (filter (λ x. p x && q x) xs)
+    go true r = ap (λ (ys : List _). cond (q x) (x ∷ ys) ys) r
+    go false r = r
+
+-- a word that is no word of statements, where it is one that is none
+word_and : (w k e : Bool) → (e ≡ true → k ≡ false) → ((w && not k) && e) ≡ (w && e)
+word_and false k e h = refl
+word_and true false e h = refl
+word_and true true true h = let e : true ≡ false = h refl in absurd cc
+word_and true true false h = refl
+
+-- the tokens that denote a name that is no word of statements are the words of that name
+pub denoting_in : (old : List ℕ) → is_keyword old ≡ false → (at line : ℕ) (cs : List Chunk) → denoting old (tokens_in at line cs) ≡ tokens_where (is_old old) at line cs
+denoting_in old free at line cs =
+    filter_filter is_name_token (λ token. bytes_eq token.value old) (tokens_in at line cs)
+    ∙ filter_tokens (λ token. is_name_token token && bytes_eq token.value old) (is_old old) same (no_word (λ v. bytes_eq v old)) at line cs
+  where
+    same : (at line : ℕ) (c : Chunk) → (is_name_token (token_at at line c) && bytes_eq (token_at at line c).value old) ≡ is_old old c
+    same at line c =
+        word_and (is_word c.0) (is_keyword (value_of c.0 c.1)) (bytes_eq (value_of c.0 c.1) old) (λ e. ap is_keyword ((bytes_eq-Decides (value_of c.0 c.1) old).0 e) ∙ free)
+        ∙ word_test (λ v. bytes_eq v old) at line c
