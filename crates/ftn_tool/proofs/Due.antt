@@ -1,0 +1,33 @@
+-- The reply that the code makes is the one to the verdict that the file gives.
+use Rattle.std.proofs.Common.{◌≡◌, ℕ, ◌≤◌, List, length, Option, Some, None, refl, sym, ap, subst, ◌∙◌}
+use Rattle.std.specs.Prelude.{Result, Ok, Err, IfOk, unwrap_or}
+use Rattle.ftn_base.specs.Files.{File}
+use Rattle.ftn_base.specs.declared.memory.NoMemory.{NoMemory}
+use Rattle.free_scan.specs.FirstForm.{IsProgramText, Lacks}
+use Rattle.free_scan.specs.Tokens.{tokens_of}
+use Rattle.free_scan.specs.declared.first_form.program.Program.{Program}
+use Rattle.free_scan.specs.declared.first_form.token.Token.{Token}
+use Rattle.rename_ref.specs.Conditions.{judged}
+use Rattle.rename_ref.specs.declared.judgement.Judgement.{Judgement}
+use Rattle.rename_ref.specs.declared.rename.Rename.{Rename}
+use Rattle.ftn_tool.specs.declared.reply.Reply.{Reply}
+use Rattle.ftn_tool.specs.Replies.{IsDue, judgement_reply, not_built_reply}
+use Rattle.ftn_tool.specs.Verdicts.{Gives, IsFirstForm, judgement, not_built, text_limit}
+
+same_file : (name text : List ℕ) (other_name other_text : List ℕ) → ◌≡◌ {A = Option File} (Some (name, text)) (Some (other_name, other_text)) → text ≡ other_text
+same_file name text other_name other_text e = ap (λ (file : Option File). (unwrap_or file (name, text)).1) e
+
+-- a file whose text spells no program isn't in first form
+pub due_lacking : (order : Rename) (file : Option File) (name text : List ℕ) (result : Result Reply NoMemory)
+    → file ≡ Some (name, text) → Lacks text → IfOk result (λ reply. reply ≡ not_built_reply) → IfOk result (λ reply. IsDue order file reply)
+due_lacking order file name text (Ok reply) is lacks made =
+    (not_built, (λ other_name other_text program form. lacks program (subst (λ (t : List ℕ). IsProgramText t program) (sym (same_file name text other_name other_text (sym is ∙ form.only))) form.spells), made))
+due_lacking order file name text (Err fault) is lacks made = tt
+
+-- a file in first form is judged
+pub due_judged : (order : Rename) (file : Option File) (name text : List ℕ) (program : Program) (tokens : List Token) (judged_so : Judgement) (result : Result Reply NoMemory)
+    → file ≡ Some (name, text) → length text ≤ text_limit → IsProgramText text program → tokens_of text ≡ Some tokens → judged_so ≡ judged order name text tokens
+    → IfOk result (λ reply. reply ≡ judgement_reply name text judged_so) → IfOk result (λ reply. IsDue order file reply)
+due_judged order file name text program tokens judged_so (Ok reply) is size spells scanned judged_as made =
+    (judgement name text tokens judged_so, ((program, (record { only = is; size = size; spells = spells }, scanned, sym judged_as)), made))
+due_judged order file name text program tokens judged_so (Err fault) is size spells scanned judged_as made = tt

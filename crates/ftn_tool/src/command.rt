@@ -1,0 +1,229 @@
+//! Commands, and how words are read as one.
+
+ghost use Rattle.std.specs.List.{list_all};
+ghost use Rattle.std.specs.Option.{option_copied};
+ghost use Rattle.std.specs.Prelude.{◌≡◌, ◌+◌, ◌<◌, ◌^◌, [], map, slice_get, Some};
+ghost use Rattle.std.specs.String.{string_bytes};
+ghost use Rattle.ftn_tool.specs.Words as spec;
+ghost use Rattle.ftn_tool.specs.Reading as reading;
+ghost use Rattle.ftn_tool.specs.Reading.{Finds};
+ghost use Rattle.ftn_base.specs.Letters as letters;
+ghost use Rattle.free_scan.specs.Spelling.{number_of};
+ghost use Rattle.ftn_tool.specs.declared.command.WordsFault.TheVariants.{NoMemory as no_memory};
+
+use ftn_base::{Bytes, FileName, NameFault, is_digit};
+use rename_ref::Rename;
+use std::alloc::{AllocError, Global};
+
+/// An order to refactor, with its arguments.
+#[derive(Debug, Drop)]
+pub enum Order {
+    /// `rename FILE LINE COLUMN NEW`
+    Rename(Rename),
+}
+
+/// What a command line asks for.
+#[derive(Debug, Drop)]
+pub enum Command {
+    /// `apply ORDER ..`
+    Apply(Order),
+}
+
+/// Why words are no command.
+#[derive(Clone, Copy, Debug, PartialEq, Eq)]
+pub enum WordsFault {
+    /// The position of the first word that is bad or missing, from 1: the least number such that no command
+    /// begins with so many of the words, or the number of words plus 1.
+    Bad(u32),
+    /// An allocation was refused.
+    NoMemory,
+}
+
+impl From<AllocError> for WordsFault {
+    ghost from_gives = { λ _ fault. fault ≡ no_memory };
+
+    fn from(_error: AllocError) -> WordsFault {
+        WordsFault::NoMemory
+    }
+}
+
+impl From<ftn_base::NoMemory> for WordsFault {
+    ghost from_gives = { λ _ fault. fault ≡ no_memory };
+
+    fn from(_error: ftn_base::NoMemory) -> WordsFault {
+        WordsFault::NoMemory
+    }
+}
+
+/// The command that the words mean, the program's name left out.
+pub fn read_words(alloc: Global, words: &[String]) -> Result<Command, WordsFault>
+    ensures { Finds (λ command. command) result (spec.command_of (map string_bytes words.now)) }
+{
+    read(alloc, words)
+}
+
+fn read(alloc: Global, words: &[String]) -> Result<Command, WordsFault>
+    ensures { Finds (λ command. command) result (reading.read (map string_bytes words.now)) }
+{
+    text_at(words, 0, b"apply")?;
+    text_at(words, 1, b"rename")?;
+    let file = file_at(alloc, words, 2)?;
+    let line = count_at(words, 3)?;
+    let column = count_at(words, 4)?;
+    let new = plain_at(alloc, words, 5)?;
+    end_at(words, 6)?;
+    let order = Rename {
+        file,
+        line,
+        column,
+        new,
+    };
+    Ok(Command::Apply(Order::Rename(order)))
+}
+
+/// The word at that place, counted from 0.
+fn word_at(words: &[String], at: u32) -> Option<&[u8]>
+    ensures { option_copied result ≡ slice_get (map string_bytes words.now) at }
+{
+    match words.get(at as usize) {
+        Some(word) => Some(word.as_bytes()),
+        None => None,
+    }
+}
+
+fn is_text(text: &[u8], word: &[u8]) -> bool
+    ensures { result ≡ spec.is_text text.now word.now }
+{
+    word == text
+}
+
+fn is_option(word: &[u8]) -> bool
+    ensures { result ≡ spec.is_option word.now }
+{
+    match word {
+        [] => false,
+        [first, ..] => *first == b'-',
+    }
+}
+
+fn text_at<'a>(words: &'a [String], at: u32, text: &[u8]) -> Result<&'a [u8], WordsFault>
+    requires { at + 1 < 2 ^ 32 }
+    ensures { Finds (λ word. word.now) result (reading.word_at (spec.is_text text.now) (map string_bytes words.now) at) }
+{
+    match word_at(words, at) {
+        Some(word) => {
+            if is_text(text, word) {
+                Ok(word)
+            } else {
+                Err(WordsFault::Bad(at + 1))
+            }
+        }
+        None => Err(WordsFault::Bad(at + 1)),
+    }
+}
+
+fn file_of(alloc: Global, word: &[u8], at: u32) -> Result<FileName, WordsFault>
+    requires { at + 1 < 2 ^ 32 }
+    ensures { Finds (λ name. name) result (reading.tested spec.is_file_word at (Some word.now)) }
+{
+    if is_option(word) {
+        return Err(WordsFault::Bad(at + 1));
+    }
+    match FileName::new(alloc, word) {
+        Ok(name) => Ok(name),
+        Err(NameFault::NotAName) => Err(WordsFault::Bad(at + 1)),
+        Err(NameFault::NoMemory) => Err(WordsFault::NoMemory),
+    }
+}
+
+fn file_at(alloc: Global, words: &[String], at: u32) -> Result<FileName, WordsFault>
+    requires { at + 1 < 2 ^ 32 }
+    ensures { Finds (λ name. name) result (reading.word_at spec.is_file_word (map string_bytes words.now) at) }
+{
+    match word_at(words, at) {
+        Some(word) => file_of(alloc, word, at),
+        None => Err(WordsFault::Bad(at + 1)),
+    }
+}
+
+fn are_digits(word: &[u8]) -> bool
+    ensures { result ≡ list_all letters.is_digit word.now }
+{
+    word.iter().all(|byte| is_digit(*byte))
+}
+
+fn is_numeral(word: &[u8]) -> bool
+    ensures { result ≡ spec.is_numeral word.now }
+{
+    match word {
+        [] => false,
+        [first, ..] => *first != b'0' && are_digits(word),
+    }
+}
+
+/// The value of a row of digits, where it is below 2^32.
+fn number_below(digits: &[u8]) -> Option<u32>
+    ensures { result ≡ reading.below (number_of digits.now) }
+{
+    let mut number: u64 = 0;
+    for digit in digits {
+        number = 10 * number + u64::from(digit.saturating_sub(b'0'));
+        if number >= 1 << 32 {
+            return None;
+        }
+    }
+    Some(number as u32)
+}
+
+fn count_of(word: &[u8], at: u32) -> Result<u32, WordsFault>
+    requires { at + 1 < 2 ^ 32 }
+    ensures { Finds (λ count. count) result (reading.counted at (Some word.now)) }
+{
+    if !is_numeral(word) {
+        return Err(WordsFault::Bad(at + 1));
+    }
+    match number_below(word) {
+        Some(number) => Ok(number),
+        None => Err(WordsFault::Bad(at + 1)),
+    }
+}
+
+fn count_at(words: &[String], at: u32) -> Result<u32, WordsFault>
+    requires { at + 1 < 2 ^ 32 }
+    ensures { Finds (λ count. count) result (reading.count_at (map string_bytes words.now) at) }
+{
+    match word_at(words, at) {
+        Some(word) => count_of(word, at),
+        None => Err(WordsFault::Bad(at + 1)),
+    }
+}
+
+fn plain_of(alloc: Global, word: &[u8], at: u32) -> Result<Bytes, WordsFault>
+    requires { at + 1 < 2 ^ 32 }
+    ensures { Finds (λ text. text) result (reading.tested spec.is_plain_word at (Some word.now)) }
+{
+    if is_option(word) {
+        return Err(WordsFault::Bad(at + 1));
+    }
+    Ok(Bytes::from_slice(alloc, word)?)
+}
+
+fn plain_at(alloc: Global, words: &[String], at: u32) -> Result<Bytes, WordsFault>
+    requires { at + 1 < 2 ^ 32 }
+    ensures { Finds (λ text. text) result (reading.word_at spec.is_plain_word (map string_bytes words.now) at) }
+{
+    match word_at(words, at) {
+        Some(word) => plain_of(alloc, word, at),
+        None => Err(WordsFault::Bad(at + 1)),
+    }
+}
+
+fn end_at(words: &[String], at: u32) -> Result<(), WordsFault>
+    requires { at + 1 < 2 ^ 32 }
+    ensures { Finds (λ _. []) result (reading.ended at (slice_get (map string_bytes words.now) at)) }
+{
+    match word_at(words, at) {
+        Some(_) => Err(WordsFault::Bad(at + 1)),
+        None => Ok(()),
+    }
+}

@@ -1,0 +1,57 @@
+//! What the program says of itself.
+
+/// The whole help.
+pub const HELP: &str = "\
+ftn_tool refactors projects of free-form Fortran 90 files in the current folder.
+It never runs the program. It changes files only where every result stays.
+
+Usage:
+  ftn_tool apply rename FILE LINE COLUMN NEW
+      Give the entity whose name stands at that line and column of the file
+      the name NEW, everywhere. Lines and columns count from 1, columns in bytes.
+  ftn_tool -h | --help
+  ftn_tool --version
+
+The project is every file of the folder whose name ends in .f90. This version
+reads projects of one file with one main program of integer scalars,
+assignments and `print *`; any other project is `fault NotBuilt -`.
+
+Output, one line, and exit codes:
+  0  applying 1 files          the rename was made
+  1  refused CONDITION PLACE   a condition fails; no file changed
+  2  bad word K                the K-th word is bad or missing
+  3  fault NAME PLACE          the project can't be read; no file changed
+  5  store fault               a file could not be read or written
+  7                            standard output failed; no file changed
+  8                            out of memory; no file changed
+PLACE is FILE:LINE:COLUMN, or - where there is none.
+
+Conditions of rename:
+  NoName    no name stands at that place
+  BadName   NEW is no Fortran name of at most 31 characters
+  Keyword   NEW is a word of statements or an intrinsic function
+  Captured  NEW already stands at that place
+  LongLine  that edit would make a line of more than 132 bytes
+";
+
+/// The version.
+pub const VERSION: &str = "ftn_tool 0.1.0\n";
+
+/// Where to look after words that are no command.
+pub const HINT: &str = "ftn_tool: try `ftn_tool --help`";
+
+/// Whether these words ask for the help, and for nothing else.
+pub fn asks_for_help(words: &[String]) -> bool {
+    match words {
+        [word] => word.as_str() == "--help" || word.as_str() == "-h",
+        _ => false,
+    }
+}
+
+/// Whether these words ask for the version, and for nothing else.
+pub fn asks_for_version(words: &[String]) -> bool {
+    match words {
+        [word] => word.as_str() == "--version",
+        _ => false,
+    }
+}

@@ -1,0 +1,61 @@
+//! `ftn_tool`: refactorings of projects of Fortran 90 files, each with a proof that every result stays.
+#![tactic(auto)]
+
+mod apply;
+mod arguments;
+mod carry;
+mod command;
+mod help;
+mod lines;
+mod project;
+mod reply;
+#[cfg(test)]
+mod tests;
+mod tool;
+
+use crate::arguments::words_of;
+use crate::help::{HELP, HINT, VERSION, asks_for_help, asks_for_version};
+use crate::tool::tool;
+use ftn_base::Status;
+use std::io;
+use std::process::ExitCode;
+use store_io::{DirStore, StdSink, StdSource};
+
+/// Prints a text of the program's own.
+fn show(rt: &HostRuntime, text: &str) -> Status {
+    match rt.print(text) {
+        Ok(()) => Status::Done,
+        Err(_) => Status::OutputFault,
+    }
+}
+
+/// Carries out the command over the current folder, standard input and standard output.
+fn carry_out(rt: &HostRuntime, words: &[String]) -> Status {
+    let mut store = DirStore::new(rt, rt.alloc());
+    let mut input = StdSource::new(rt.reader());
+    let mut out = StdSink::new(io::writer(rt));
+    tool(rt.alloc(), words, &mut store, &mut input, &mut out)
+}
+
+/// The hint goes to standard error, so that the output is the answer alone.
+fn answer(rt: &HostRuntime, words: &[String]) -> Status {
+    if asks_for_help(words) {
+        return show(rt, HELP);
+    }
+    if asks_for_version(words) {
+        return show(rt, VERSION);
+    }
+    let status = carry_out(rt, words);
+    if status == Status::BadWords {
+        let _ = rt.eprintln(HINT);
+    }
+    status
+}
+
+fn main(rt: HostRuntime) -> ExitCode {
+    let status = match words_of(&rt) {
+        Ok(words) => answer(&rt, &words),
+        Err(_) => Status::NoMemory,
+    };
+    ExitCode::from(status.code())
+}

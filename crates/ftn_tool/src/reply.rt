@@ -1,0 +1,82 @@
+//! What is due for an order over the one file of a project.
+
+ghost use Rattle.std.specs.Prelude.{◌≡◌, ◌+◌, ◌<◌, ◌^◌, length, IfOk};
+ghost use Rattle.ftn_tool.specs.Replies.{judgement_reply, not_built_reply, IsDue};
+
+use crate::lines::{APPLYING, NOT_BUILT, refused};
+use crate::project::TEXT_LIMIT;
+use free_scan::first_form::read_first_form;
+use ftn_base::{Bytes, FileName, NoMemory, Status};
+use rename_ref::{Judgement, Rename, judge};
+use std::alloc::Global;
+
+/// An answer with its line, and the file that is to be put before it stands.
+#[derive(Debug, Drop)]
+pub struct Reply {
+    /// The status.
+    pub status: Status,
+    /// The line that is written, with its LF.
+    pub line: Bytes,
+    /// The name and the new text of the file that is put.
+    pub put: Option<(FileName, Bytes)>,
+}
+
+/// The reply that is due for the order, where this is the front of the project's one file, or it has none.
+pub fn due_reply(
+    alloc: Global,
+    order: &Rename,
+    file: Option<(FileName, Bytes)>,
+) -> Result<Reply, NoMemory>
+    ensures { IfOk result (λ reply. IsDue order.now file reply) }
+{
+    let Some((name, text)) = file else {
+        return not_built(alloc);
+    };
+    if text.bytes().len() > TEXT_LIMIT as usize {
+        return not_built(alloc);
+    }
+    let Some(form) = read_first_form(alloc, text.bytes())? else {
+        return not_built(alloc);
+    };
+    let judgement = judge(alloc, order, &name, text.bytes(), form.tokens.as_slice())?;
+    judged(alloc, name, &text, judgement)
+}
+
+fn not_built(alloc: Global) -> Result<Reply, NoMemory>
+    ensures { IfOk result (λ reply. reply ≡ not_built_reply) }
+{
+    Ok(Reply {
+        status: Status::BadProject,
+        line: Bytes::from_slice(alloc, NOT_BUILT)?,
+        put: None,
+    })
+}
+
+fn judged(
+    alloc: Global,
+    name: FileName,
+    text: &Bytes,
+    judgement: Judgement,
+) -> Result<Reply, NoMemory>
+    requires { length text.now + 2 < 2 ^ 32 }
+    ensures { IfOk result (λ reply. reply ≡ judgement_reply name text.now judgement) }
+{
+    match judgement {
+        Judgement::Refuse { cond, at } => {
+            let line = refused(alloc, &name, text.bytes(), cond, at)?;
+            Ok(Reply {
+                status: Status::Refused,
+                line: Bytes::from_vec(line),
+                put: None,
+            })
+        }
+        Judgement::Accept(new_text) => {
+            let line = Bytes::from_slice(alloc, APPLYING)?;
+            Ok(Reply {
+                status: Status::Done,
+                line,
+                put: Some((name, new_text)),
+            })
+        }
+    }
+}
