@@ -1,6 +1,7 @@
 -- What holds of every run of a program in first form.
 use Rattle.std.specs.Prelude.{◌≡◌, ℕ, ◌+◌, List, ◌++◌}
 use Rattle.std.specs.Str.{bytes_eq}
+use Rattle.free_scan.specs.FirstForm.{IsProgramText}
 use Rattle.free_scan.specs.declared.first_form.program.Program.{Program}
 use Rattle.rename_ref.specs.declared.first_meaning.Outcome.{Outcome}
 use Rattle.rename_ref.specs.declared.first_meaning.Outcome.TheVariants.{Stop, Fault, Spent}
@@ -22,3 +23,7 @@ KeepsNamesApart f = (a b : List ℕ) → bytes_eq (f a) (f b) ≡ bytes_eq a b
 
 abbrev pub RenamingKeepsRuns : Type 0
 RenamingKeepsRuns = (f : List ℕ → List ℕ) → KeepsNamesApart f → (program : Program) (steps : ℕ) → run (map_program f program) steps ≡ run program steps
+
+-- All programs that a text spells run alike.
+abbrev pub OneRunPerText : Type 0
+OneRunPerText = (text : List ℕ) (first second : Program) → IsProgramText text first → IsProgramText text second → (steps : ℕ) → run first steps ≡ run second steps

@@ -2,7 +2,7 @@
 
 ghost use Rattle.std.specs.Prelude.{◌≡◌, IfOk};
 ghost use Rattle.rename_ref.specs.Meaning.{run as run_of};
-ghost use Rattle.rename_ref.specs.MeaningLaws.{MoreStepsOnlyAdd, RenamingKeepsRuns};
+ghost use Rattle.rename_ref.specs.MeaningLaws.{MoreStepsOnlyAdd, OneRunPerText, RenamingKeepsRuns};
 
 mod expression;
 mod halt;
@@ -71,6 +71,11 @@ pub fn run(alloc: Global, program: &Program, steps: u64) -> Result<Ran, NoMemory
 /// The law that more steps only add to what a program does.
 pub fn more_steps_only_add()
     ensures { MoreStepsOnlyAdd }
+{}
+
+/// The law that a run is a function of the text and the number of steps.
+pub fn one_run_per_text()
+    ensures { OneRunPerText }
 {}
 
 /// The law that a program does the same by whatever names its variables go, if different names stay different.
