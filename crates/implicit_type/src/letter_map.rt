@@ -1,0 +1,91 @@
+//! The implicit type of each letter in a scoping unit (Fortran 90, 5.3).
+
+ghost use Rattle.std.specs.Prelude.{◌≡◌, ◌≤◌, ◌-◌};
+ghost use Rattle.implicit_type.specs.Letters as spec;
+
+use crate::rows::{first_given, number_of, put};
+use ftn_base::{Letter, Ty};
+use std::marker::Model;
+
+/// The first letter of a range that a range of the same scoping unit gave before (5.3).
+#[derive(Clone, Copy, Debug, PartialEq, Eq)]
+pub struct Twice(pub u8);
+
+/// The implicit type of each letter, and whether a range of the scoping unit gave it.
+/// Contracts see the list of these pairs, one for each letter from A to Z.
+#[derive(Debug, Drop)]
+pub struct LetterMap {
+    entries: [(Letter, bool); 26],
+}
+
+impl Model for LetterMap {
+    ghost use Rattle.implicit_type.specs.Letters.{Entry};
+    ghost use Rattle.std.specs.Prelude.{List};
+
+    ghost Value = { List Entry };
+
+    ghost view = { λ a. a.entries };
+}
+
+impl LetterMap {
+    /// The map of a scoping unit without a host and without IMPLICIT: I to N are integer, all others real.
+    #[tactic(auto, unfolding(crate::specs::Letters::alphabet))]
+    pub fn standard() -> LetterMap
+        ensures { result ≡ spec.standard }
+    {
+        let mut entries = [(Letter::Real, false); 26];
+        put(
+            &mut entries,
+            b'i',
+            b'n',
+            (Letter::Known(Ty::Integer), false),
+        );
+        LetterMap { entries }
+    }
+
+    /// The map of a scoping unit with IMPLICIT NONE: no letter has a type.
+    #[tactic(auto, unfolding(crate::specs::Letters::alphabet))]
+    pub fn none() -> LetterMap
+        ensures { result ≡ spec.none }
+    {
+        LetterMap {
+            entries: [(Letter::Nothing, false); 26],
+        }
+    }
+
+    /// The map that a scoping unit within this one begins with: the same letters, none given.
+    pub fn inner(&self) -> LetterMap
+        ensures { result ≡ spec.inner self.now }
+    {
+        let mut entries = [(Letter::Nothing, false); 26];
+        for number in 0..26 {
+            entries[number] = (self.entries[number].0, false);
+        }
+        LetterMap { entries }
+    }
+
+    /// This map after a range of an IMPLICIT statement, from one letter to another, all in lower case.
+    /// Where a letter of the range was given before, the first such letter. It takes no memory.
+    pub fn with_range(self, from: u8, to: u8, letter: Letter) -> Result<LetterMap, Twice>
+        requires first { 97 ≤ from }
+        requires ordered { from ≤ to }
+        requires last { to ≤ 122 }
+        ensures { result ≡ spec.with_range from to letter self }
+    {
+        let LetterMap { mut entries } = self;
+        if let Some(twice) = first_given(&entries, from, to) {
+            return Err(Twice(twice));
+        }
+        put(&mut entries, from, to, (letter, true));
+        Ok(LetterMap { entries })
+    }
+
+    /// The implicit type of a name that begins with this letter, in lower case.
+    pub fn type_of(&self, first: u8) -> Letter
+        requires low { 97 ≤ first }
+        requires high { first ≤ 122 }
+        ensures { result ≡ spec.type_of first self.now }
+    {
+        self.entries[number_of(first)].0
+    }
+}

@@ -1,0 +1,9 @@
+//! Implicit types by first letter (Fortran 90, 5.3).
+#![tactic(auto)]
+
+mod letter_map;
+mod rows;
+#[cfg(test)]
+mod tests;
+
+pub use letter_map::{LetterMap, Twice};
