@@ -1,0 +1,5 @@
+use Rattle.gen_project.proofs.Lines.{body_is}
+use Rattle.gen_project.proofs.texts.put_body.Goals as goal
+
+pub returns : goal.returns
+returns c = rw (c.in_ok-extend_from_slice.ensures.items, c.in_ok-put-2.ensures, c.in_ok-put.ensures) (body_is c.args.out.now.items c.args.number.now)
