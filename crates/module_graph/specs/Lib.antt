@@ -1,0 +1,5 @@
+pub mod Uses
+pub mod Orders
+pub mod Cycles
+pub mod Marks
+pub mod Waiting

@@ -1,0 +1,15 @@
+//! The order of modules, each after those that it uses, and the cycle where there is none (Fortran 90,
+//! 11.3).
+#![tactic(auto)]
+
+mod fault;
+mod modules;
+mod placing;
+mod search;
+mod waiting;
+
+pub use fault::GraphFault;
+pub use modules::order;
+
+#[cfg(test)]
+mod tests;

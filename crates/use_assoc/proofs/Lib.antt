@@ -1,0 +1,4 @@
+pub mod Adding
+pub mod Modules
+pub mod Once
+pub mod Rows

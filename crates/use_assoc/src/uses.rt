@@ -1,0 +1,291 @@
+//! What the USE statements of a scoping unit make accessible (Fortran 90, 11.3.2).
+
+ghost use Rattle.std.specs.Prelude.{◌≡◌, ◌<◌, ◌^◌, ◌&&◌, ◌++◌, [], IfOk, IfErr, IfSome, OnOk, length, map, not, nat_eq, None, Some, if◌then◌else◌};
+ghost use Rattle.std.specs.List.{All, filter, flat_map, list_any};
+ghost use Rattle.std.specs.Str.{bytes_eq};
+ghost use Rattle.std.specs.Option.{option_map};
+ghost use Rattle.indexmap.specs.IndexSet.{insert_all};
+ghost use Rattle.use_assoc.specs.Access.{is_among};
+ghost use Rattle.use_assoc.specs.Accessible as spec;
+ghost use Rattle.use_assoc.specs.Table.{found_in, AreTables};
+ghost use Rattle.use_assoc.specs.declared.uses.UseFault.TheVariants as faults;
+
+use crate::given::Given;
+use crate::name_set::NameSet;
+use crate::table::{Table, Tables, exports_of};
+use ftn_base::{EntityId, Name, NoMemory};
+use indexmap::IndexSet;
+use sqlite_items::Items;
+use std::alloc::Global;
+use thiserror::Error;
+
+/// An item of a USE statement. Without `=>` both names are the same.
+#[derive(Debug, Drop)]
+pub struct UseItem {
+    /// The name in the scoping unit.
+    pub local: Name,
+    /// The name in the module.
+    pub source: Name,
+}
+
+/// A USE statement.
+#[derive(Debug, Drop)]
+pub struct UseList {
+    /// The number of its module.
+    pub module: u32,
+    /// Whether it has ONLY.
+    pub only: bool,
+    /// Its items.
+    pub items: Items<UseItem>,
+}
+
+/// Why USE statements make nothing accessible.
+#[derive(Clone, Copy, Debug, PartialEq, Eq, Error)]
+pub enum UseFault {
+    /// An item whose source its module doesn't export, by the numbers of its list and in it of the item.
+    #[error("NotPublic")]
+    NotPublic {
+        /// The number of the list.
+        list: u32,
+        /// The number of the item in its list.
+        item: u32,
+    },
+    /// An allocation was refused.
+    #[error("NoMemory")]
+    NoMemory,
+}
+
+impl From<NoMemory> for UseFault {
+    ghost from_gives = { λ _ fault. fault ≡ faults.NoMemory };
+
+    fn from(_fault: NoMemory) -> UseFault {
+        UseFault::NoMemory
+    }
+}
+
+fn add_item(given: &mut Given, alloc: Global, table: &Table, item: &UseItem) -> Result<(), NoMemory>
+    ensures { OnOk result (given.new ≡ insert_all spec.is_same_pair given.old (spec.gives (found_in table.now.by_name) item.now)) }
+{
+    for entity in table.find(&item.source) {
+        given.add(alloc, &item.local, *entity)?;
+    }
+    Ok(())
+}
+
+fn add_items(
+    given: &mut Given,
+    alloc: Global,
+    table: &Table,
+    items: &[UseItem],
+) -> Result<(), NoMemory>
+    ensures { OnOk result (given.new ≡ insert_all spec.is_same_pair given.old (flat_map (spec.gives (found_in table.now.by_name)) items.now)) }
+{
+    for item in items {
+        add_item(given, alloc, table, item)?;
+    }
+    Ok(())
+}
+
+fn add_lists(
+    given: &mut Given,
+    alloc: Global,
+    table: &Table,
+    number: u32,
+    lists: &[UseList],
+) -> Result<(), NoMemory>
+    ensures { OnOk result (given.new
+        ≡ insert_all spec.is_same_pair given.old (flat_map (spec.gives (found_in table.now.by_name)) (spec.items_in (spec.lists_of number lists.now)))) }
+{
+    for list in lists {
+        if list.module == number {
+            add_items(given, alloc, table, list.items.as_slice())?;
+        }
+    }
+    Ok(())
+}
+
+fn add_others(
+    given: &mut Given,
+    alloc: Global,
+    sources: &NameSet,
+    pairs: &[(Name, EntityId)],
+) -> Result<(), NoMemory>
+    ensures { OnOk result (given.new ≡ insert_all spec.is_same_pair given.old (spec.others (is_among sources.now) pairs.now)) }
+{
+    for pair in pairs {
+        if !sources.has(&pair.0) {
+            given.add(alloc, &pair.0, pair.1)?;
+        }
+    }
+    Ok(())
+}
+
+fn add_sources(set: &mut NameSet, alloc: Global, items: &[UseItem]) -> Result<(), NoMemory>
+    ensures { OnOk result (set.new ≡ insert_all bytes_eq set.old (spec.sources_of items.now)) }
+{
+    for item in items {
+        set.add(alloc, &item.source)?;
+    }
+    Ok(())
+}
+
+fn sources(alloc: Global, number: u32, lists: &[UseList]) -> Result<NameSet, NoMemory>
+    ensures { IfOk result (λ set. is_among set ≡ is_among (spec.sources_of (spec.items_in (spec.lists_of number lists.now)))) }
+{
+    let mut set = NameSet::new(alloc);
+    for list in lists {
+        if list.module == number {
+            add_sources(&mut set, alloc, list.items.as_slice())?;
+        }
+    }
+    Ok(set)
+}
+
+fn takes_all(number: u32, lists: &[UseList]) -> bool
+    ensures { result ≡ list_any (λ list. nat_eq list.«module» number && not list.only) lists.now }
+{
+    lists.iter().any(|list| list.module == number && !list.only)
+}
+
+fn add_module(
+    given: &mut Given,
+    alloc: Global,
+    table: &Table,
+    pairs: &[(Name, EntityId)],
+    number: u32,
+    lists: &[UseList],
+) -> Result<(), NoMemory>
+    requires { found_in table.now.by_name ≡ spec.entities_of pairs.now }
+    ensures { OnOk result (given.new ≡ insert_all spec.is_same_pair given.old (spec.given_by pairs.now (spec.lists_of number lists.now))) }
+{
+    add_lists(given, alloc, table, number, lists)?;
+    if takes_all(number, lists) {
+        let sources = sources(alloc, number, lists)?;
+        add_others(given, alloc, &sources, pairs)?;
+    }
+    Ok(())
+}
+
+fn modules(alloc: Global, lists: &[UseList]) -> Result<IndexSet<u32>, NoMemory>
+    ensures { IfOk result (λ modules. modules.keys ≡ spec.modules_of lists.now) }
+{
+    let mut modules = IndexSet::new(alloc);
+    for list in lists {
+        modules.insert(list.module)?;
+    }
+    Ok(modules)
+}
+
+fn is_missing(table: &Table, name: &Name) -> bool
+    ensures { result ≡ spec.is_nothing (found_in table.now.by_name name.now) }
+{
+    match table.find(name) {
+        [] => true,
+        [_, ..] => false,
+    }
+}
+
+fn bad_item(table: &Table, items: &[UseItem]) -> Option<usize>
+    ensures within { IfSome result (λ item. item < length items.now) }
+    ensures first { result ≡ spec.bad_item (found_in table.now.by_name) items.now }
+{
+    items
+        .iter()
+        .position(|item| is_missing(table, &item.source))
+}
+
+fn first_not_public(
+    tables: &mut Tables,
+    alloc: Global,
+    exports: &[Vec<(Name, EntityId)>],
+    lists: &[UseList],
+) -> Result<Option<(u32, u32)>, NoMemory>
+    requires modules { All (λ list. list.«module» < length exports.now) lists.now }
+    requires few { length lists.now < 2 ^ 32 }
+    requires few_items { All (λ list. length list.items < 2 ^ 32) lists.now }
+    requires tables { AreTables (map (λ pairs. pairs.items) exports.now) tables.old.by_module }
+    ensures first { IfOk result (λ first. first ≡ spec.first_not_public (map (λ pairs. pairs.items) exports.now) lists.now) }
+    ensures tables { OnOk result (AreTables (map (λ pairs. pairs.items) exports.now) tables.new.by_module) }
+{
+    let mut at = 0;
+    for list in lists {
+        tables.prepare(alloc, exports, list.module)?;
+        if let Some(item) = bad_item(tables.of(list.module), list.items.as_slice()) {
+            return Ok(Some((at, item as u32)));
+        }
+        at += 1;
+    }
+    Ok(None)
+}
+
+fn add_modules(
+    given: &mut Given,
+    tables: &mut Tables,
+    alloc: Global,
+    exports: &[Vec<(Name, EntityId)>],
+    lists: &[UseList],
+    modules: &[u32],
+) -> Result<(), NoMemory>
+    requires modules { All (λ number. number < length exports.now) modules.now }
+    requires tables { AreTables (map (λ pairs. pairs.items) exports.now) tables.old.by_module }
+    ensures { OnOk result (given.new ≡ insert_all spec.is_same_pair given.old
+        (flat_map (λ number. spec.given_by (spec.exports_of (map (λ pairs. pairs.items) exports.now) number) (spec.lists_of number lists.now)) modules.now)) }
+{
+    for number in modules {
+        tables.prepare(alloc, exports, *number)?;
+        add_module(
+            given,
+            alloc,
+            tables.of(*number),
+            exports_of(exports, *number),
+            *number,
+            lists,
+        )?;
+    }
+    Ok(())
+}
+
+fn all_given(
+    tables: &mut Tables,
+    alloc: Global,
+    exports: &[Vec<(Name, EntityId)>],
+    lists: &[UseList],
+) -> Result<Vec<(Name, EntityId)>, NoMemory>
+    requires modules { All (λ list. list.«module» < length exports.now) lists.now }
+    requires tables { AreTables (map (λ pairs. pairs.items) exports.now) tables.old.by_module }
+    ensures { IfOk result (λ pairs. pairs.items ≡ spec.accessible_of (map (λ pairs. pairs.items) exports.now) lists.now) }
+{
+    let modules = modules(alloc, lists)?;
+    let mut given = Given::new(alloc);
+    add_modules(
+        &mut given,
+        tables,
+        alloc,
+        exports,
+        lists,
+        modules.as_slice(),
+    )?;
+    given.pairs(alloc)
+}
+
+/// The pairs of a local name and an entity that the USE statements give, where `exports` has what each module exports. All statements
+/// for one module count together: first what their items give, and then, if one of them lacks ONLY, the names that are no item's source.
+/// Modules stand in the order of their first statements, and each pair stands once, at its first place.
+pub fn accessible(
+    alloc: Global,
+    exports: &[Vec<(Name, EntityId)>],
+    lists: &[UseList],
+) -> Result<Vec<(Name, EntityId)>, UseFault>
+    requires modules { All (λ list. list.«module» < length exports.now) lists.now }
+    requires few { length lists.now < 2 ^ 32 }
+    requires few_items { All (λ list. length list.items < 2 ^ 32) lists.now }
+    ensures public { IfOk result (λ _. spec.first_not_public (map (λ pairs. pairs.items) exports.now) lists.now ≡ None) }
+    ensures pairs { IfOk result (λ pairs. pairs.items ≡ spec.accessible_of (map (λ pairs. pairs.items) exports.now) lists.now) }
+    ensures fault { IfErr result (λ fault. spec.IsFault fault (spec.first_not_public (map (λ pairs. pairs.items) exports.now) lists.now)) }
+{
+    let mut tables = Tables::new(alloc);
+    if let Some((list, item)) = first_not_public(&mut tables, alloc, exports, lists)? {
+        return Err(UseFault::NotPublic { list, item });
+    }
+    Ok(all_given(&mut tables, alloc, exports, lists)?)
+}
