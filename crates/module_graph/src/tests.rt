@@ -73,6 +73,23 @@ fn long(alloc: Global, last: &[u32]) -> Result<Vec<Vec<u32>>, Fail> {
     Ok(lists)
 }
 
+/// Layers of 60 modules, each of which uses all of the next layer.
+fn layers(alloc: Global) -> Result<Vec<Vec<u32>>, Fail> {
+    let mut lists = Vec::new(alloc);
+    for next in 1..61_u32 {
+        for _place in 0..60 {
+            let mut list = Vec::new(alloc);
+            if next < 60 {
+                for used in 60 * next..60 * next + 60 {
+                    list.push(used)?;
+                }
+            }
+            lists.push(list)?;
+        }
+    }
+    Ok(lists)
+}
+
 #[test]
 fn orders_modules_or_tells_a_cycle(rt: HostRuntime) -> Result<(), Fail> {
     let alloc = rt.alloc();
@@ -112,5 +129,16 @@ fn tells_a_long_ring(rt: HostRuntime) -> Result<(), Fail> {
     assert_eq!(rt; list.len(), 4096);
     assert_eq!(rt; list.first().copied(), Some(0));
     assert_eq!(rt; list.last().copied(), Some(4095));
+    Ok(())
+}
+
+#[test]
+fn orders_complete_layers(rt: HostRuntime) -> Result<(), Fail> {
+    let alloc = rt.alloc();
+    let (list, is_order) = answer(alloc, &layers(alloc)?)?;
+    assert!(rt; is_order);
+    assert_eq!(rt; list.len(), 3600);
+    assert_eq!(rt; list.first().copied(), Some(3540));
+    assert_eq!(rt; list.last().copied(), Some(59));
     Ok(())
 }

@@ -23,8 +23,8 @@ at_is f xs n x lt at = ap f at ∙ sym (ap (λ o. unwrap_or o []) (slice_get-map
 abbrev IsRight : List (List Pair) → ℕ → Option Table → Type 0
 IsRight exports number table = IfSome table (λ t. found_in t.by_name ≡ entities_of (exports_of exports number))
 
-module _ {S : Type 0} (exports : List (List Pair)) where
-  pub table_added : (old new : IndexMap ℕ Table S) (number : ℕ) (table : Table) → AreTables exports old
+module _ {H : Type 0} (exports : List (List Pair)) where
+  pub table_added : (old new : IndexMap ℕ Table H) (number : ℕ) (table : Table) → AreTables exports old
       → ((q : ℕ) → get nat_eq new q ≡ cond (nat_eq number q) (Some table) (get nat_eq old q))
       → found_in table.by_name ≡ entities_of (exports_of exports number) → AreTables exports new
   table_added old new number table before updates right q = subst (IsRight exports q) (sym (updates q)) (by (nat_eq number q) refl)
@@ -33,7 +33,7 @@ module _ {S : Type 0} (exports : List (List Pair)) where
       by true e = right ∙ ap (λ n. entities_of (exports_of exports n)) (same_number number q e)
       by false e = before q
 
-  pub table_right : (tables : IndexMap ℕ Table S) (number : ℕ) (table : Table) → get nat_eq tables number ≡ Some table → AreTables exports tables
+  pub table_right : (tables : IndexMap ℕ Table H) (number : ℕ) (table : Table) → get nat_eq tables number ≡ Some table → AreTables exports tables
       → found_in table.by_name ≡ entities_of (exports_of exports number)
   table_right tables number table at right = subst (λ o. IfSome o (λ t. found_in t.by_name ≡ entities_of (exports_of exports number))) at (right number)
 

@@ -13,5 +13,5 @@ abbrev pub found_in : {S : Type 0} → IndexMap (List ℕ) (List EntityId) S →
 found_in table name = unwrap_or (get bytes_eq table name) []
 
 -- each table is that of its module's exports
-abbrev pub AreTables : {S : Type 0} → List (List Pair) → IndexMap ℕ Table S → Type 0
+abbrev pub AreTables : {H : Type 0} → List (List Pair) → IndexMap ℕ Table H → Type 0
 AreTables exports tables = (number : ℕ) → IfSome (get nat_eq tables number) (λ table. found_in table.by_name ≡ entities_of (exports_of exports number))
