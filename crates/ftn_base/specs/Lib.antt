@@ -1,6 +1,7 @@
 pub mod Letters
 pub mod Names
 pub mod Places
+pub mod Storage
 pub mod Keywords
 pub mod Files
 pub mod FaultNames
