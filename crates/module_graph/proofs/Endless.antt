@@ -3,7 +3,7 @@
 use Rattle.std.proofs.Common.{◌≡◌, ℕ, zero, suc, ◌+◌, ◌<◌, ◌≤◌, eqb, Bool, true, false, List, [], ◌∷◌, ◌++◌, length, get_or, All, Contains, ◌⊎◌, inl, inr, refl, sym, subst, arith}
 use Rattle.std.specs.List.{AllByRecursion, IsDistinct, list_any}
 use Rattle.std.proofs.lemmas.Bool.{cases_Bool, eqb-true}
-use Rattle.std.proofs.lemmas.List.Elements.{All-cons, All-contains, All-nil, Contains-append_cases, Contains-push_cases}
+use Rattle.std.proofs.lemmas.List.Elements.{All-cons, All-contains, All-nil}
 use Rattle.std.proofs.lemmas.Map.Keys.{IsDistinct-cons}
 use Rattle.std.proofs.lemmas.Map.Steps.{length-le_from_distinct_below}
 use Rattle.std.proofs.lemmas.Map.Views.{Contains-from_any}
@@ -13,25 +13,13 @@ use Rattle.module_graph.specs.Orders.{IsOrder}
 use Rattle.module_graph.specs.Marks.{IsFree, IsMarked, IsStuck, IsUnmarked}
 use Rattle.module_graph.proofs.Chains.{chain_more}
 use Rattle.module_graph.proofs.Listing.{used_known}
-use Rattle.module_graph.proofs.Marking.{all_or_one}
+use Rattle.module_graph.proofs.Marking.{all_or_one, front_cases, none_in}
 use Rattle.module_graph.proofs.Placed.{free_is_ready}
 
 -- the trail, the last module first
 abbrev Trail : List (List ℕ) → ℕ → List ℕ → Type 0
 Trail uses last [] = Unit
 Trail uses last (earlier ∷ trail) = Uses uses earlier last × Trail uses earlier trail
-
-none_in : (number : ℕ) → Contains [] number → ⊥
-none_in number c = let lt : c.0 < 0 = c.1 in omega arith
-
-front_cases : (x : ℕ) (xs : List ℕ) (number : ℕ) → Contains (x ∷ xs) number → (x ≡ number) ⊎ Contains xs number
-front_cases x xs number c = elim (Contains-append_cases (x ∷ []) xs number c) [
-  | inl front ↦ elim (Contains-push_cases [] x number front) [
-    | inl none ↦ absurd (none_in number none)
-    | inr e ↦ inl e
-  ]
-  | inr rest ↦ inr rest
-]
 
 abbrev Leads : List (List ℕ) → ℕ → ℕ → Type 0
 Leads uses first last = (first ≡ last) ⊎ ((between : List ℕ) × IsChain uses first between last)

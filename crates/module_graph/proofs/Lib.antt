@@ -1,8 +1,11 @@
 pub mod Chains
 pub mod Endless
+pub mod Giving
 pub mod Listing
 pub mod Marking
 pub mod Placed
 pub mod Searching
 pub mod Known
 pub mod Waits
+pub mod Walking
+pub mod Whole

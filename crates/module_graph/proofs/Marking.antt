@@ -2,7 +2,7 @@
 use Rattle.std.proofs.Common.{◌≡◌, ◌≢◌, ℕ, ◌+◌, ◌<◌, ◌≤◌, Bool, true, false, not, cond, List, [], ◌∷◌, length, get_or, set, take, take_all, replicate, All, Contains, ◌⊎◌, inl, inr, sym, ◌∙◌, subst, ap, arith, sum_by}
 use Rattle.std.proofs.lemmas.Bool.{cases_Bool, cases_eq, cases_lt, true≢false}
 use Rattle.std.proofs.lemmas.List.{get_or-replicate, get_or-set_other, get_or-set_same, get_or_past, length-replicate}
-use Rattle.std.proofs.lemmas.List.Elements.{All-cons, All-more, All-nil, Contains-append_left, Contains-append_right, Contains-push}
+use Rattle.std.proofs.lemmas.List.Elements.{All-cons, All-more, All-nil, Contains-append_cases, Contains-append_left, Contains-append_right, Contains-push, Contains-push_cases}
 use Rattle.std.proofs.lemmas.List.Sums.{sum_by-set}
 use Rattle.module_graph.specs.Marks.{IsMarked, IsUnmarked, unmarked}
 
@@ -48,6 +48,18 @@ in_rest x xs number c = Contains-append_right (x ∷ []) xs number c
 
 pub in_front : (x : ℕ) (xs : List ℕ) → Contains (x ∷ xs) x
 in_front x xs = Contains-append_left (x ∷ []) xs x (Contains-push [] x)
+
+pub none_in : (number : ℕ) → Contains [] number → ⊥
+none_in number c = let lt : c.0 < 0 = c.1 in omega arith
+
+pub front_cases : (x : ℕ) (xs : List ℕ) (number : ℕ) → Contains (x ∷ xs) number → (x ≡ number) ⊎ Contains xs number
+front_cases x xs number c = elim (Contains-append_cases (x ∷ []) xs number c) [
+  | inl front ↦ elim (Contains-push_cases [] x number front) [
+    | inl none ↦ absurd (none_in number none)
+    | inr e ↦ inl e
+  ]
+  | inr rest ↦ inr rest
+]
 
 abbrev pub OneUnmarked : List Bool → List ℕ → Type 0
 OneUnmarked marks list = (number : ℕ) × Contains list number × IsUnmarked marks number

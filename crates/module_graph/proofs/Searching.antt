@@ -6,9 +6,9 @@ use Rattle.std.proofs.lemmas.List.Elements.{All-cons, All-contains, All-nil, All
 use Rattle.std.proofs.lemmas.List.Quantifiers.{all_pairs_push}
 use Rattle.module_graph.specs.Uses.{Uses, used_by}
 use Rattle.module_graph.specs.Cycles.{IsChain, IsLeastCycle, IsOnCycle, IsRing}
-use Rattle.module_graph.specs.Marks.{IsMarked, IsSearch, IsUnmarked, IsWayBack, to_do}
+use Rattle.module_graph.specs.Marks.{IsMarked, IsSearch, IsUnmarked, IsWayBack}
 use Rattle.module_graph.proofs.Chains.{in_take}
-use Rattle.module_graph.proofs.Marking.{all_unmarked, mark_here, mark_more, mark_other, not_both, unmarked_less}
+use Rattle.module_graph.proofs.Marking.{all_unmarked, mark_here, mark_more, mark_other, not_both}
 
 -- ---- a path that ends where it began
 
@@ -138,9 +138,6 @@ module _ (uses : List (List ℕ)) (from : ℕ) (marks : List Bool) (path : List 
       ];
     }
 
-    pub back_nearer : to_do marks rest < to_do marks path
-    back_nearer = let size = shorter in omega arith
-
   -- ---- on to a module without a mark
 
   module _ (next : ℕ) (used : Uses uses top next) (bare : IsUnmarked marks next) (other : next ≢ from) (known : next < length uses) where
@@ -211,21 +208,6 @@ module _ (uses : List (List ℕ)) (from : ℕ) (marks : List Bool) (path : List 
         | inr mark ↦ marked_shut number mark
       ];
     }
-
-    pub on_nearer : to_do marked more < to_do marks path
-    on_nearer =
-        let size = length_push path next in
-        let less = unmarked_less marks next within bare in
-        omega arith
-
--- ---- the entry at which the search stands, as the code reads it
-
-pub used_by_top : (uses : List (List ℕ)) (path list : List ℕ) (last next : ℕ) → last ≡ get_or path (length path - 1) 0 → list ≡ used_by uses last → Contains list next → Uses uses (get_or path (length path - 1) 0) next
-used_by_top uses path list last next e l c = subst (λ (n : ℕ). Uses uses n next) e (subst (λ (x : List ℕ). Contains x next) l c)
-
-pub done_at_top : (uses : List (List ℕ)) (marks : List Bool) (path list : List ℕ) (last : ℕ) → last ≡ get_or path (length path - 1) 0 → list ≡ used_by uses last → All (IsMarked marks) list
-    → All (IsMarked marks) (used_by uses (get_or path (length path - 1) 0))
-done_at_top uses marks path list last e l all = subst (λ (n : ℕ). All (IsMarked marks) (used_by uses n)) e (subst (λ (x : List ℕ). All (IsMarked marks) x) l all)
 
 pub least_by_way_back : (uses : List (List ℕ)) (from : ℕ) (path : List ℕ) → IsWayBack uses from path → ((number : ℕ) → number < from → IsOnCycle uses number → ⊥) → IsLeastCycle uses path
 least_by_way_back uses from path back none = record {

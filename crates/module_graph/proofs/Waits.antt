@@ -10,26 +10,26 @@ use Rattle.std.proofs.lemmas.Map.Lookups.{exact_unsigned}
 use Rattle.std.proofs.lemmas.Map.Views.{btree_set_contains_iff}
 use Rattle.module_graph.specs.Uses.{Uses, used_by}
 use Rattle.module_graph.specs.Orders.{IsNext}
-use Rattle.module_graph.specs.Marks.{IsFree, IsMarked, IsPlaced, IsStuck, IsUnmarked, unmarked}
-use Rattle.module_graph.specs.Waiting.{AreCovered, IsCovered, IsGoing, IsSettled, IsSound, IsTaken, IsWaiter, IsWoken, waiter_lists, waiters_on}
-use Rattle.module_graph.specs.declared.waiting.Waiter.{Waiter}
+use Rattle.module_graph.specs.Marks.{IsEntry, IsFree, IsMarked, IsPlaced, IsStuck, IsUnmarked, unmarked}
+use Rattle.module_graph.specs.Waiting.{AreCovered, IsCovered, IsGoing, IsSettled, IsSound, IsTaken, IsWaiter, waiter_lists, waiters_on}
+use Rattle.module_graph.specs.declared.entries.Entry.{Entry}
 use Rattle.module_graph.proofs.Marking.{in_front, in_rest, mark_here, mark_more, no_mark, not_both, unmarked_less}
 use Rattle.module_graph.proofs.Placed.{next_of_free, none_placed, placed_more, ready_is_free}
 
-pub waits_length : {A : Type 0} (lists : List (Vec Waiter A)) → length (waiter_lists lists) ≡ length lists
+pub waits_length : {A : Type 0} (lists : List (Vec Entry A)) → length (waiter_lists lists) ≡ length lists
 waits_length lists = length-map lists (λ list. list.items)
 
-pub waits_at : {A : Type 0} (lists : List (Vec Waiter A)) (i : ℕ) (list : Vec Waiter A) → i < length lists → list ≡ get_or lists i list → list.items ≡ waiters_on (waiter_lists lists) i
+pub waits_at : {A : Type 0} (lists : List (Vec Entry A)) (i : ℕ) (list : Vec Entry A) → i < length lists → list ≡ get_or lists i list → list.items ≡ waiters_on (waiter_lists lists) i
 waits_at lists i list lt at = ap (λ v. v.items) at ∙ sym (get_or-map (λ v. v.items) lists i list [] lt)
 
-pub waits_set : {A : Type 0} (lists : List (Vec Waiter A)) (i : ℕ) (list : Vec Waiter A) → waiter_lists (set lists i list) ≡ set (waiter_lists lists) i list.items
+pub waits_set : {A : Type 0} (lists : List (Vec Entry A)) (i : ℕ) (list : Vec Entry A) → waiter_lists (set lists i list) ≡ set (waiter_lists lists) i list.items
 waits_set lists i list = map-set (λ v. v.items) lists i list
 
 -- ---- a module more that waits
 
-module _ (uses : List (List ℕ)) (marks : List Bool) (waits : List (List Waiter)) (ready : List ℕ) (sound : IsSound uses marks waits ready)
-    (used : ℕ) (waiter : Waiter) (lt : used < length waits) (valid : IsWaiter uses marks used waiter) where
-  abbrev more : List (List Waiter)
+module _ (uses : List (List ℕ)) (marks : List Bool) (waits : List (List Entry)) (ready : List ℕ) (sound : IsSound uses marks waits ready)
+    (used : ℕ) (waiter : Entry) (lt : used < length waits) (valid : IsWaiter uses marks used waiter) where
+  abbrev more : List (List Entry)
   more = set waits used (waiters_on waits used ++ waiter ∷ [])
 
   on_used : waiters_on more used ≡ waiters_on waits used ++ waiter ∷ []
@@ -41,18 +41,18 @@ module _ (uses : List (List ℕ)) (marks : List Bool) (waits : List (List Waiter
   all_on : (other : ℕ) → All (IsWaiter uses marks other) (waiters_on more other)
   all_on other = elim (cases_eq other used) [
     | inl e ↦ subst (λ (n : ℕ). All (IsWaiter uses marks n) (waiters_on more n)) (sym e)
-        (subst (λ (l : List Waiter). All (IsWaiter uses marks used) l) (sym on_used) (All-push (IsWaiter uses marks used) (waiters_on waits used) waiter (sound.waiters used) valid))
-    | inr ne ↦ subst (λ (l : List Waiter). All (IsWaiter uses marks other) l) (sym (on_other other ne)) (sound.waiters other)
+        (subst (λ (l : List Entry). All (IsWaiter uses marks used) l) (sym on_used) (All-push (IsWaiter uses marks used) (waiters_on waits used) waiter (sound.waiters used) valid))
+    | inr ne ↦ subst (λ (l : List Entry). All (IsWaiter uses marks other) l) (sym (on_other other ne)) (sound.waiters other)
   ]
 
   pub waits_sound : IsSound uses marks more ready
   waits_sound = record { free = sound.free; waiters = all_on }
 
-  among_more : (other : ℕ) (w : Waiter) → Contains (waiters_on waits other) w → Contains (waiters_on more other) w
+  among_more : (other : ℕ) (w : Entry) → Contains (waiters_on waits other) w → Contains (waiters_on more other) w
   among_more other w c = elim (cases_eq other used) [
     | inl e ↦ subst (λ (n : ℕ). Contains (waiters_on more n) w) (sym e)
-        (subst (λ (l : List Waiter). Contains l w) (sym on_used) (Contains-append_left (waiters_on waits used) (waiter ∷ []) w (subst (λ (n : ℕ). Contains (waiters_on waits n) w) e c)))
-    | inr ne ↦ subst (λ (l : List Waiter). Contains l w) (sym (on_other other ne)) c
+        (subst (λ (l : List Entry). Contains l w) (sym on_used) (Contains-append_left (waiters_on waits used) (waiter ∷ []) w (subst (λ (n : ℕ). Contains (waiters_on waits n) w) e c)))
+    | inr ne ↦ subst (λ (l : List Entry). Contains l w) (sym (on_other other ne)) c
   ]
 
   pub waits_kept : (number : ℕ) → IsCovered marks waits ready number → IsCovered marks more ready number
@@ -62,11 +62,11 @@ module _ (uses : List (List ℕ)) (marks : List Bool) (waits : List (List Waiter
   ]
 
   pub waits_here : IsUnmarked marks used → IsCovered marks more ready waiter.user
-  waits_here bare = inr (record { used = used; waiter = waiter; no_mark = bare; among = subst (λ (l : List Waiter). Contains l waiter) (sym on_used) (Contains-push (waiters_on waits used) waiter); same = refl })
+  waits_here bare = inr (record { used = used; waiter = waiter; no_mark = bare; among = subst (λ (l : List Entry). Contains l waiter) (sym on_used) (Contains-push (waiters_on waits used) waiter); same = refl })
 
 -- ---- a module more that is ready
 
-module _ (uses : List (List ℕ)) (marks : List Bool) (waits : List (List Waiter)) (ready more : List ℕ) (number : ℕ)
+module _ (uses : List (List ℕ)) (marks : List Bool) (waits : List (List Entry)) (ready more : List ℕ) (number : ℕ)
     (kept : (other : ℕ) → Contains ready other → Contains more other) (only : (other : ℕ) → Contains more other → (other ≡ number) ⊎ Contains ready other) where
   pub ready_sound : IsSound uses marks waits ready → IsFree uses marks number → IsSound uses marks waits more
   ready_sound sound free = record {
@@ -119,21 +119,21 @@ module _ (old new : BTreeSet ℕ) (number : ℕ) (updates : Updates nat_cmp old 
 
 -- ---- a mark more
 
-woken_more : (uses : List (List ℕ)) (marks : List Bool) (number : ℕ) → number < length marks → (waiter : Waiter) → IsWoken uses marks waiter → IsWoken uses (set marks number true) waiter
+woken_more : (uses : List (List ℕ)) (marks : List Bool) (number : ℕ) → number < length marks → (waiter : Entry) → IsEntry uses marks waiter → IsEntry uses (set marks number true) waiter
 woken_more uses marks number lt waiter w = record {
   known = w.known;
   front = All-weaker (IsMarked marks) (IsMarked (set marks number true)) (λ n mark. mark_more marks number n lt mark) (take waiter.at (used_by uses waiter.user)) w.front;
 }
 
-waiter_more : (uses : List (List ℕ)) (marks : List Bool) (number : ℕ) → number < length marks → (used : ℕ) (waiter : Waiter) → IsWaiter uses marks used waiter → IsWaiter uses (set marks number true) used waiter
+waiter_more : (uses : List (List ℕ)) (marks : List Bool) (number : ℕ) → number < length marks → (used : ℕ) (waiter : Entry) → IsWaiter uses marks used waiter → IsWaiter uses (set marks number true) used waiter
 waiter_more uses marks number lt used waiter w = record { woken = woken_more uses marks number lt waiter w.woken; within = w.within; entry = w.entry }
 
-module _ (uses : List (List ℕ)) (marks : List Bool) (waits : List (List Waiter)) (ready : List ℕ) (sound : IsSound uses marks waits ready)
+module _ (uses : List (List ℕ)) (marks : List Bool) (waits : List (List Entry)) (ready : List ℕ) (sound : IsSound uses marks waits ready)
     (number : ℕ) (lt : number < length marks) (within : number < length waits) where
   abbrev marked : List Bool
   marked = set marks number true
 
-  abbrev left : List (List Waiter)
+  abbrev left : List (List Entry)
   left = set waits number []
 
   left_other : (other : ℕ) → other ≢ number → waiters_on left other ≡ waiters_on waits other
@@ -148,8 +148,8 @@ module _ (uses : List (List ℕ)) (marks : List Bool) (waits : List (List Waiter
   all_left : (other : ℕ) → All (IsWaiter uses marked other) (waiters_on left other)
   all_left other = elim (cases_eq other number) [
     | inl e ↦ subst (λ (n : ℕ). All (IsWaiter uses marked n) (waiters_on left n)) (sym e)
-        (subst (λ (l : List Waiter). All (IsWaiter uses marked number) l) (sym (get_or-set_same waits number [] [] within)) (All-nil (IsWaiter uses marked number)))
-    | inr ne ↦ subst (λ (l : List Waiter). All (IsWaiter uses marked other) l) (sym (left_other other ne))
+        (subst (λ (l : List Entry). All (IsWaiter uses marked number) l) (sym (get_or-set_same waits number [] [] within)) (All-nil (IsWaiter uses marked number)))
+    | inr ne ↦ subst (λ (l : List Entry). All (IsWaiter uses marked other) l) (sym (left_other other ne))
         (All-weaker (IsWaiter uses marks other) (IsWaiter uses marked other) (λ w v. waiter_more uses marks number lt other w v) (waiters_on waits other) (sound.waiters other))
   ]
 
@@ -165,11 +165,11 @@ module _ (uses : List (List ℕ)) (marks : List Bool) (waits : List (List Waiter
     waiters = all_left;
   }
 
-  pub all_woken : All (IsWoken uses marked) (waiters_on waits number)
-  all_woken = All-weaker (IsWaiter uses marks number) (IsWoken uses marked) (λ w v. woken_more uses marks number lt w v.woken) (waiters_on waits number) (sound.waiters number)
+  pub all_woken : All (IsEntry uses marked) (waiters_on waits number)
+  all_woken = All-weaker (IsWaiter uses marks number) (IsEntry uses marked) (λ w v. woken_more uses marks number lt w v.woken) (waiters_on waits number) (sound.waiters number)
 
   -- what was covered is so still, or it is woken
-  pub covered_or_woken : (other : ℕ) → IsCovered marks waits ready other → IsCovered marked left ready other ⊎ ((waiter : Waiter) × Contains (waiters_on waits number) waiter × (waiter.user ≡ other))
+  pub covered_or_woken : (other : ℕ) → IsCovered marks waits ready other → IsCovered marked left ready other ⊎ ((waiter : Entry) × Contains (waiters_on waits number) waiter × (waiter.user ≡ other))
   covered_or_woken other covered = elim covered [
     | inl c ↦ inl (inl c)
     | inr x ↦ elim (cases_eq x.used number) [
@@ -178,14 +178,14 @@ module _ (uses : List (List ℕ)) (marks : List Bool) (waits : List (List Waiter
         used = x.used;
         waiter = x.waiter;
         no_mark = get_or-set_other marks number x.used true false ne ∙ x.no_mark;
-        among = subst (λ (l : List Waiter). Contains l x.waiter) (sym (left_other x.used ne)) x.among;
+        among = subst (λ (l : List Entry). Contains l x.waiter) (sym (left_other x.used ne)) x.among;
         same = x.same;
       }))
     ]
   ]
 
   -- all are covered once the woken ones are
-  pub covered_after : (waits_new : List (List Waiter)) (ready_new : List ℕ) → ((other : ℕ) → IsCovered marked left ready other → IsCovered marked waits_new ready_new other)
+  pub covered_after : (waits_new : List (List Entry)) (ready_new : List ℕ) → ((other : ℕ) → IsCovered marked left ready other → IsCovered marked waits_new ready_new other)
       → All (λ waiter. IsUnmarked marked waiter.user → IsCovered marked waits_new ready_new waiter.user) (waiters_on waits number)
       → ((other : ℕ) → other < length uses → IsUnmarked marks other → other ≢ number → IsCovered marks waits ready other) → AreCovered uses marked waits_new ready_new
   covered_after waits_new ready_new kept woken others other known bare =
@@ -198,7 +198,7 @@ module _ (uses : List (List ℕ)) (marks : List Bool) (waits : List (List Waiter
 
 -- ---- the least module that is ready
 
-pub free_is_there : (uses : List (List ℕ)) (marks : List Bool) (waits : List (List Waiter)) (ready : List ℕ) → IsSound uses marks waits ready → (number : ℕ) → IsFree uses marks number → IsCovered marks waits ready number → Contains ready number
+pub free_is_there : (uses : List (List ℕ)) (marks : List Bool) (waits : List (List Entry)) (ready : List ℕ) → IsSound uses marks waits ready → (number : ℕ) → IsFree uses marks number → IsCovered marks waits ready number → Contains ready number
 free_is_there uses marks waits ready sound number free covered = elim covered [
   | inl c ↦ c
   | inr x ↦
@@ -212,10 +212,10 @@ less_by a b e = grind (arith, nat_tests)
 
 -- ---- one turn
 
-pub already : (uses : List (List ℕ)) (marks : List Bool) (waits : List (List Waiter)) (ready : List ℕ) (user : ℕ) → IsSound uses marks waits ready → IsMarked marks user → IsSettled uses marks waits ready waits ready user
+pub already : (uses : List (List ℕ)) (marks : List Bool) (waits : List (List Entry)) (ready : List ℕ) (user : ℕ) → IsSound uses marks waits ready → IsMarked marks user → IsSettled uses marks waits ready waits ready user
 already uses marks waits ready user sound mark = record { sound = sound; kept = λ number c. c; here = λ bare. absurd (not_both marks user mark bare) }
 
-pub is_ready : (uses : List (List ℕ)) (marks : List Bool) (waits : List (List Waiter)) (ready more : List ℕ) (waiter : Waiter) (list : List ℕ) → IsSound uses marks waits ready → IsWoken uses marks waiter
+pub is_ready : (uses : List (List ℕ)) (marks : List Bool) (waits : List (List Entry)) (ready more : List ℕ) (waiter : Entry) (list : List ℕ) → IsSound uses marks waits ready → IsEntry uses marks waiter
     → IsUnmarked marks waiter.user → list ≡ used_by uses waiter.user → All (IsMarked marks) list
     → Contains more waiter.user → ((other : ℕ) → Contains ready other → Contains more other) → ((other : ℕ) → Contains more other → (other ≡ waiter.user) ⊎ Contains ready other)
     → IsSettled uses marks waits ready waits more waiter.user
@@ -225,18 +225,18 @@ is_ready uses marks waits ready more waiter list sound woken bare e all here kep
   here = λ _. inl here;
 }
 
-waits_pushed : {A : Type 0} (lists : List (Vec Waiter A)) (i : ℕ) (old new : Vec Waiter A) (waiter : Waiter) → i < length lists → old ≡ get_or lists i old → new.items ≡ old.items ++ waiter ∷ []
+waits_pushed : {A : Type 0} (lists : List (Vec Entry A)) (i : ℕ) (old new : Vec Entry A) (waiter : Entry) → i < length lists → old ≡ get_or lists i old → new.items ≡ old.items ++ waiter ∷ []
     → set (waiter_lists lists) i (waiters_on (waiter_lists lists) i ++ waiter ∷ []) ≡ waiter_lists (set lists i new)
 waits_pushed lists i old new waiter lt at e =
-    sym (waits_set lists i new ∙ ap (λ (l : List Waiter). set (waiter_lists lists) i l) (e ∙ ap (λ (l : List Waiter). l ++ waiter ∷ []) (waits_at lists i old lt at)))
+    sym (waits_set lists i new ∙ ap (λ (l : List Entry). set (waiter_lists lists) i l) (e ∙ ap (λ (l : List Entry). l ++ waiter ∷ []) (waits_at lists i old lt at)))
 
-pub waits_on : {A : Type 0} (uses : List (List ℕ)) (marks : List Bool) (lists : List (Vec Waiter A)) (ready : List ℕ) (waiter : Waiter) (list : List ℕ) (at : ℕ) (old new : Vec Waiter A)
-    → IsSound uses marks (waiter_lists lists) ready → IsWoken uses marks waiter → list ≡ used_by uses waiter.user → at < length list → IsUnmarked marks (get_or list at 0) → All (IsMarked marks) (take at list)
+pub waits_on : {A : Type 0} (uses : List (List ℕ)) (marks : List Bool) (lists : List (Vec Entry A)) (ready : List ℕ) (waiter : Entry) (list : List ℕ) (at : ℕ) (old new : Vec Entry A)
+    → IsSound uses marks (waiter_lists lists) ready → IsEntry uses marks waiter → list ≡ used_by uses waiter.user → at < length list → IsUnmarked marks (get_or list at 0) → All (IsMarked marks) (take at list)
     → get_or list at 0 < length lists → old ≡ get_or lists (get_or list at 0) old → new.items ≡ old.items ++ (record { user = waiter.user; at = at }) ∷ []
     → IsSettled uses marks (waiter_lists lists) ready (waiter_lists (set lists (get_or list at 0) new)) ready waiter.user
 waits_on uses marks lists ready waiter list at old new sound woken e within bare front lt is items =
     let used = get_or list at 0 in
-    let next : Waiter = record { user = waiter.user; at = at } in
+    let next : Entry = record { user = waiter.user; at = at } in
     let waits = waiter_lists lists in
     let valid : IsWaiter uses marks used next = record {
       woken = record { known = woken.known; front = subst (λ (l : List ℕ). All (IsMarked marks) (take at l)) e front };
@@ -246,7 +246,7 @@ waits_on uses marks lists ready waiter list at old new sound woken e within bare
     let size = waits_length lists in
     let below : used < length waits = omega arith in
     let same = waits_pushed lists used old new next lt is items in
-    subst (λ (w : List (List Waiter)). IsSettled uses marks waits ready w ready waiter.user) same (record {
+    subst (λ (w : List (List Entry)). IsSettled uses marks waits ready w ready waiter.user) same (record {
       sound = waits_sound uses marks waits ready sound used next below valid;
       kept = waits_kept uses marks waits ready sound used next below valid;
       here = λ _. waits_here uses marks waits ready sound used next below valid bare;
@@ -262,7 +262,7 @@ front_cases x xs number c = elim (Contains-append_cases (x ∷ []) xs number c) 
 ]
 
 -- the least module that is ready is taken
-module _ (uses : List (List ℕ)) (list : List ℕ) (marks : List Bool) (waits : List (List Waiter)) (ready rest : List ℕ) (number : ℕ)
+module _ (uses : List (List ℕ)) (list : List ℕ) (marks : List Bool) (waits : List (List Entry)) (ready rest : List ℕ) (number : ℕ)
     (going : IsGoing uses list marks waits ready) (e : ready ≡ number ∷ rest) (above : All (λ other. nat_cmp number other ≡ Less) rest) where
   greater : (other : ℕ) → Contains rest other → number < other
   greater other c = less_by number other (All-contains (λ x. nat_cmp number x ≡ Less) rest other above c)
@@ -300,7 +300,7 @@ module _ (uses : List (List ℕ)) (list : List ℕ) (marks : List Bool) (waits :
     ];
   }
 
-  pub goes_on : (list_new : List ℕ) (marks_new : List Bool) (waits_new : List (List Waiter)) (ready_new : List ℕ) → list_new ≡ list ++ number ∷ [] → marks_new ≡ set marks number true
+  pub goes_on : (list_new : List ℕ) (marks_new : List Bool) (waits_new : List (List Entry)) (ready_new : List ℕ) → list_new ≡ list ++ number ∷ [] → marks_new ≡ set marks number true
       → IsSound uses marks_new waits_new ready_new → AreCovered uses marks_new waits_new ready_new → length waits_new ≡ length uses → IsGoing uses list_new marks_new waits_new ready_new
   goes_on list_new marks_new waits_new ready_new l m sound covered sized = record {
     placed = subst₂ (λ (a : List ℕ) (b : List Bool). IsPlaced uses a b) (sym l) (sym m) (placed_more uses list marks going.placed number taken_next);
@@ -316,7 +316,7 @@ module _ (uses : List (List ℕ)) (list : List ℕ) (marks : List Bool) (waits :
       let same : unmarked marks_new ≡ unmarked (set marks number true) = ap unmarked m in
       omega arith
 
-pub none_ready : (uses : List (List ℕ)) (list : List ℕ) (marks : List Bool) (waits : List (List Waiter)) (ready : List ℕ) → IsGoing uses list marks waits ready → ready ≡ [] → IsStuck uses list marks
+pub none_ready : (uses : List (List ℕ)) (list : List ℕ) (marks : List Bool) (waits : List (List Entry)) (ready : List ℕ) → IsGoing uses list marks waits ready → ready ≡ [] → IsStuck uses list marks
 none_ready uses list marks waits ready going e = record {
   placed = going.placed;
   stuck = λ number is.
@@ -327,13 +327,13 @@ none_ready uses list marks waits ready going e = record {
       omega arith;
 }
 
-pub nothing_yet : {A : Type 0} (uses : List (List ℕ)) (marks : List Bool) (lists : List (Vec Waiter A)) (ready : List ℕ) → All (λ list. list.items ≡ []) lists → ready ≡ [] → IsSound uses marks (waiter_lists lists) ready
+pub nothing_yet : {A : Type 0} (uses : List (List ℕ)) (marks : List Bool) (lists : List (Vec Entry A)) (ready : List ℕ) → All (λ list. list.items ≡ []) lists → ready ≡ [] → IsSound uses marks (waiter_lists lists) ready
 nothing_yet {A} uses marks lists ready none e = record {
   free = λ number c. absurd (let size : length ready ≡ 0 = ap length e in let lt : c.0 < length ready = c.1 in omega arith);
   waiters = λ used. elim (cases_lt used (length (waiter_lists lists))) [
-    | inl lt ↦ subst (λ (l : List Waiter). All (IsWaiter uses marks used) l) (sym (All-get_or (λ (l : List Waiter). l ≡ []) (waiter_lists lists) used [] lt (All-map (λ (l : List Waiter). l ≡ []) (λ (v : Vec Waiter A). v.items) lists none)))
+    | inl lt ↦ subst (λ (l : List Entry). All (IsWaiter uses marks used) l) (sym (All-get_or (λ (l : List Entry). l ≡ []) (waiter_lists lists) used [] lt (All-map (λ (l : List Entry). l ≡ []) (λ (v : Vec Entry A). v.items) lists none)))
         (All-nil (IsWaiter uses marks used))
-    | inr le ↦ subst (λ (l : List Waiter). All (IsWaiter uses marks used) l) (sym (get_or_past (waiter_lists lists) used [] le)) (All-nil (IsWaiter uses marks used))
+    | inr le ↦ subst (λ (l : List Entry). All (IsWaiter uses marks used) l) (sym (get_or_past (waiter_lists lists) used [] le)) (All-nil (IsWaiter uses marks used))
   ];
 }
 
@@ -341,7 +341,7 @@ nothing_yet {A} uses marks lists ready none e = record {
 pub written_back : {X : Type 0} (new old : List X) (n : ℕ) → length new ≡ n → take n (new ++ drop (length new) old) ≡ new
 written_back new old n e = take_at new (drop (length new) old) n e
 
-pub going_first : (uses : List (List ℕ)) (list : List ℕ) (marks : List Bool) (waits : List (List Waiter)) (ready : List ℕ) (count : ℕ) → list ≡ [] → marks ≡ replicate count false → count ≡ length uses
+pub going_first : (uses : List (List ℕ)) (list : List ℕ) (marks : List Bool) (waits : List (List Entry)) (ready : List ℕ) (count : ℕ) → list ≡ [] → marks ≡ replicate count false → count ≡ length uses
     → IsSound uses marks waits ready → AreCovered uses marks waits ready → length waits ≡ length uses → IsGoing uses list marks waits ready
 going_first uses list marks waits ready count l m e sound covered sized = record {
   placed = none_placed uses list marks l (m ∙ ap (λ (n : ℕ). replicate n false) e);
@@ -350,10 +350,10 @@ going_first uses list marks waits ready count l m e sound covered sized = record
   sized = sized;
 }
 
-abbrev pub AreWoken : List Bool → List (List Waiter) → List ℕ → List Waiter → Type 0
+abbrev pub AreWoken : List Bool → List (List Entry) → List ℕ → List Entry → Type 0
 AreWoken marks waits ready woken = All (λ waiter. IsUnmarked marks waiter.user → IsCovered marks waits ready waiter.user) woken
 
-pub woken_next : (marks : List Bool) (waits : List (List Waiter)) (ready : List ℕ) (new_waits : List (List Waiter)) (new_ready : List ℕ) (woken : List Waiter) (i : ℕ) (d : Waiter) → i < length woken
+pub woken_next : (marks : List Bool) (waits : List (List Entry)) (ready : List ℕ) (new_waits : List (List Entry)) (new_ready : List ℕ) (woken : List Entry) (i : ℕ) (d : Entry) → i < length woken
     → ((number : ℕ) → IsCovered marks waits ready number → IsCovered marks new_waits new_ready number) → (IsUnmarked marks (get_or woken i d).user → IsCovered marks new_waits new_ready (get_or woken i d).user)
     → AreWoken marks waits ready (take i woken) → AreWoken marks new_waits new_ready (take (i + 1) woken)
 woken_next marks waits ready new_waits new_ready woken i d lt kept here all =
@@ -361,5 +361,5 @@ woken_next marks waits ready new_waits new_ready woken i d lt kept here all =
     (All-weaker (λ waiter. IsUnmarked marks waiter.user → IsCovered marks waits ready waiter.user) (λ waiter. IsUnmarked marks waiter.user → IsCovered marks new_waits new_ready waiter.user)
     (λ waiter c bare. kept waiter.user (c bare)) (take i woken) all) here
 
-pub woken_whole : (marks : List Bool) (waits : List (List Waiter)) (ready : List ℕ) (woken : List Waiter) (i : ℕ) → length woken ≤ i → AreWoken marks waits ready (take i woken) → AreWoken marks waits ready woken
-woken_whole marks waits ready woken i le all = subst (λ (l : List Waiter). AreWoken marks waits ready l) (take_all i woken le) all
+pub woken_whole : (marks : List Bool) (waits : List (List Entry)) (ready : List ℕ) (woken : List Entry) (i : ℕ) → length woken ≤ i → AreWoken marks waits ready (take i woken) → AreWoken marks waits ready woken
+woken_whole marks waits ready woken i le all = subst (λ (l : List Entry). AreWoken marks waits ready l) (take_all i woken le) all

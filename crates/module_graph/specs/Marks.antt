@@ -1,14 +1,20 @@
 -- Marks on modules, and the state of the search for a cycle, for the proofs of the code.
-use Rattle.std.specs.Prelude.{ℕ, suc, ◌+◌, ◌*◌, ◌<◌, ◌≡◌, ◌≢◌, ◌⊎◌, Bool, true, false, not, List, length, slice_index, slice_index_or, count_by, All, AllPairs, Contains}
+use Rattle.std.specs.Prelude.{ℕ, suc, ◌+◌, ◌*◌, ◌<◌, ◌≡◌, ◌≢◌, ◌⊎◌, Bool, true, false, not, List, length, take, slice_index, slice_index_or, count_by, All, AllPairs, Contains}
 use Rattle.module_graph.specs.Uses.{Uses, used_by}
 use Rattle.module_graph.specs.Orders.{IsGreedy, IsReady}
 use Rattle.module_graph.specs.Cycles.{IsRing}
+use Rattle.module_graph.specs.declared.entries.Entry.{Entry}
 
 abbrev pub IsMarked : List Bool → ℕ → Type 0
 IsMarked marks number = slice_index_or marks number false ≡ true
 
 abbrev pub IsUnmarked : List Bool → ℕ → Type 0
 IsUnmarked marks number = slice_index_or marks number false ≡ false
+
+-- an entry of the list of a module's uses, before which all are marked
+pub record IsEntry (uses : List (List ℕ)) (marks : List Bool) (entry : Entry) : Type 0 where
+  pub known : entry.user < length uses
+  pub front : All (IsMarked marks) (take entry.at (used_by uses entry.user))
 
 -- the entries of the list so far are the marked modules
 pub record IsPlaced (uses : List (List ℕ)) (list : List ℕ) (marks : List Bool) : Type 0 where
@@ -42,8 +48,8 @@ pub record IsWayBack (uses : List (List ℕ)) (from : ℕ) (path : List ℕ) : T
 abbrev pub unmarked : List Bool → ℕ
 unmarked marks = count_by not marks
 
--- what falls at each step of the search
-abbrev pub to_do : List Bool → List ℕ → ℕ
+-- what falls at each step of a walk
+abbrev pub to_do : {A : Type 0} → List Bool → List A → ℕ
 to_do marks path = 2 * unmarked marks + length path
 
 -- a module without a mark while all that it uses have one

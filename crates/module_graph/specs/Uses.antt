@@ -15,3 +15,7 @@ Uses uses user used = Contains (used_by uses user) used
 -- what is used is one of the modules
 abbrev pub AreKnown : List (List ℕ) → Type 0
 AreKnown uses = All (All (λ used. used < length uses)) uses
+
+-- so are the entries of these lists, where there are so many modules
+abbrev pub AreBelow : {A : Type 0} → ℕ → List (Vec ℕ A) → Type 0
+AreBelow count lists = All (λ list. All (λ used. used < count) list.items) lists

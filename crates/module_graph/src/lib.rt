@@ -2,14 +2,19 @@
 //! 11.3).
 #![tactic(auto)]
 
+mod entries;
 mod fault;
+mod groups;
 mod modules;
 mod placing;
 mod search;
 mod waiting;
+mod walk;
 
 pub use fault::GraphFault;
 pub use modules::order;
 
+#[cfg(test)]
+mod plain;
 #[cfg(test)]
 mod tests;

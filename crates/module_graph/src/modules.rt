@@ -6,7 +6,7 @@ ghost use Rattle.module_graph.specs.Orders.{IsOrder};
 ghost use Rattle.module_graph.specs.Cycles.{IsOnCycle, IsTrueFault};
 
 use crate::fault::GraphFault;
-use crate::placing::place_all;
+use crate::placing::{is_whole, place_all};
 use crate::search::least_cycle;
 use std::alloc::Global;
 
@@ -20,7 +20,10 @@ pub fn order(alloc: Global, uses: &[Vec<u32>]) -> Result<Vec<u32>, GraphFault>
     ensures cycle { IfErr result (IsTrueFault (used_lists uses.now)) }
 {
     let placed = place_all(alloc, uses)?;
-    match least_cycle(alloc, uses, &placed.marks)? {
+    if is_whole(&placed) {
+        return Ok(placed.list);
+    }
+    match least_cycle(alloc, uses)? {
         Some(cycle) => Err(GraphFault::Cycle(cycle)),
         None => Ok(placed.list),
     }

@@ -5,6 +5,7 @@ ghost use Rattle.module_graph.specs.Uses.{AreKnown, used_lists};
 
 use crate::fault::GraphFault;
 use crate::modules::order;
+use crate::plain;
 use std::alloc::Global;
 use std::test::Fail;
 
@@ -63,10 +64,10 @@ fn lists(alloc: Global, rows: &[&[u32]]) -> Result<Vec<Vec<u32>>, Fail> {
     Ok(lists)
 }
 
-/// Each module uses the next, and the last uses what is given.
-fn long(alloc: Global, last: &[u32]) -> Result<Vec<Vec<u32>>, Fail> {
+/// As many modules, of which each uses the next, and the last uses what is given.
+fn chain(alloc: Global, count: u32, last: &[u32]) -> Result<Vec<Vec<u32>>, Fail> {
     let mut lists = Vec::new(alloc);
-    for next in 1..4096_u32 {
+    for next in 1..count {
         lists.push(vec![in alloc; next]?)?;
     }
     lists.push(Vec::from_slice(alloc, last)?)?;
@@ -113,7 +114,7 @@ fn orders_modules_or_tells_a_cycle(rt: HostRuntime) -> Result<(), Fail> {
 #[test]
 fn orders_a_long_chain(rt: HostRuntime) -> Result<(), Fail> {
     let alloc = rt.alloc();
-    let (list, is_order) = answer(alloc, &long(alloc, &[])?)?;
+    let (list, is_order) = answer(alloc, &chain(alloc, 4096, &[])?)?;
     assert!(rt; is_order);
     assert_eq!(rt; list.len(), 4096);
     assert_eq!(rt; list.first().copied(), Some(4095));
@@ -124,7 +125,7 @@ fn orders_a_long_chain(rt: HostRuntime) -> Result<(), Fail> {
 #[test]
 fn tells_a_long_ring(rt: HostRuntime) -> Result<(), Fail> {
     let alloc = rt.alloc();
-    let (list, is_order) = answer(alloc, &long(alloc, &[0])?)?;
+    let (list, is_order) = answer(alloc, &chain(alloc, 4096, &[0])?)?;
     assert!(rt; !is_order);
     assert_eq!(rt; list.len(), 4096);
     assert_eq!(rt; list.first().copied(), Some(0));
@@ -140,5 +141,60 @@ fn orders_complete_layers(rt: HostRuntime) -> Result<(), Fail> {
     assert_eq!(rt; list.len(), 3600);
     assert_eq!(rt; list.first().copied(), Some(3540));
     assert_eq!(rt; list.last().copied(), Some(59));
+    Ok(())
+}
+
+#[test]
+fn tells_a_ring_behind_a_long_tail(rt: HostRuntime) -> Result<(), Fail> {
+    let alloc = rt.alloc();
+    let (list, is_order) = answer(alloc, &chain(alloc, 100_000, &[99_998])?)?;
+    assert!(rt; !is_order);
+    assert_eq!(rt; list.as_slice(), [99_998, 99_999].as_slice());
+    Ok(())
+}
+
+#[test]
+fn tells_a_ring_behind_a_long_chain_from_another(rt: HostRuntime) -> Result<(), Fail> {
+    let alloc = rt.alloc();
+    let mut uses = chain(alloc, 100_000, &[99_998])?;
+    uses.push(vec![in alloc; 100_001_u32, 0]?)?;
+    uses.push(vec![in alloc; 100_000_u32]?)?;
+    let (list, is_order) = answer(alloc, &uses)?;
+    assert!(rt; !is_order);
+    assert_eq!(rt; list.as_slice(), [99_998, 99_999].as_slice());
+    Ok(())
+}
+
+#[test]
+fn tells_a_ring_through_the_last_of_many_uses(rt: HostRuntime) -> Result<(), Fail> {
+    let alloc = rt.alloc();
+    let mut first = Vec::new(alloc);
+    for used in 1..100_000_u32 {
+        first.push(used)?;
+    }
+    let mut uses = vec![in alloc; first]?;
+    for _place in 2..100_000 {
+        uses.push(Vec::new(alloc))?;
+    }
+    uses.push(vec![in alloc; 0_u32]?)?;
+    let (list, is_order) = answer(alloc, &uses)?;
+    assert!(rt; !is_order);
+    assert_eq!(rt; list.as_slice(), [0, 99_999].as_slice());
+    Ok(())
+}
+
+#[test]
+fn agrees_with_the_definition_on_all_uses_of_three_modules(rt: HostRuntime) -> Result<(), Fail> {
+    let alloc = rt.alloc();
+    for (count, cases) in [(0, 1), (1, 2), (2, 16), (3, 512)] {
+        for choice in 0..cases {
+            let pairs = plain::pairs(alloc, count, choice)?;
+            for times in 1..3 {
+                let uses = plain::lists(alloc, count, &pairs, times)?;
+                let (list, is_order) = answer(alloc, &uses)?;
+                assert!(rt; plain::is_right(alloc, count, &pairs, &list, is_order)?);
+            }
+        }
+    }
     Ok(())
 }

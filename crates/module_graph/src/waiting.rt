@@ -1,41 +1,14 @@
 //! Modules that wait for one that they use, and modules that are ready.
 
-ghost use Rattle.std.specs.Prelude.{◌≡◌, ◌<◌, ◌⊎◌, ◌^◌, ℕ, [], length, take, true, All, Contains, IfNone, IfSome, OnOk, slice_index, slice_set};
+ghost use Rattle.std.specs.Prelude.{◌≡◌, ◌<◌, ◌⊎◌, ◌^◌, ℕ, [], length, true, All, Contains, OnOk, slice_set};
 ghost use Rattle.module_graph.specs.Uses.{AreKnown, used_by, used_lists};
-ghost use Rattle.module_graph.specs.Marks.{IsMarked, IsUnmarked};
-ghost use Rattle.module_graph.specs.Waiting.{AreCovered, IsCovered, IsSettled, IsSound, IsTaken, IsWoken, waiter_lists, waiters_on};
+ghost use Rattle.module_graph.specs.Marks.{IsEntry, IsUnmarked};
+ghost use Rattle.module_graph.specs.Waiting.{AreCovered, IsCovered, IsSettled, IsSound, IsTaken, waiter_lists, waiters_on};
 
-use crate::placing::list_of;
+use crate::entries::{Entry, list_of, next_open};
 use ftn_base::NoMemory;
 use std::alloc::Global;
 use std::collections::BTreeSet;
-
-/// A module that waits for another to be placed: those that it uses are placed up to an entry of its list,
-/// and it waits for the module of that entry.
-#[derive(Clone, Copy)]
-pub(crate) struct Waiter {
-    pub(crate) user: u32,
-    pub(crate) at: usize,
-}
-
-// the next entry, from that one on, that has no mark
-fn next_open(list: &[u32], start: usize, marks: &[bool]) -> Option<usize>
-    requires known { All (λ number. number < length marks.now) list.now }
-    requires front { All (IsMarked marks.now) (take start list.now) }
-    ensures entry { IfSome result (λ at. at < length list.now) }
-    ensures no_mark { IfSome result (λ at. IsUnmarked marks.now (slice_index list.now at)) }
-    ensures front { IfSome result (λ at. All (IsMarked marks.now) (take at list.now)) }
-    ensures shut { IfNone result (All (IsMarked marks.now) list.now) }
-{
-    let mut at = start;
-    'entries: while at < list.len() {
-        if !marks[list[at] as usize] {
-            return Some(at);
-        }
-        at += 1;
-    }
-    None
-}
 
 // adds a number to those that are ready
 fn add(ready: &mut BTreeSet<u32>, number: u32) -> Result<(), NoMemory>
@@ -51,15 +24,15 @@ fn add(ready: &mut BTreeSet<u32>, number: u32) -> Result<(), NoMemory>
 fn settle(
     uses: &[Vec<u32>],
     marks: &[bool],
-    waiting: &mut [Vec<Waiter>],
+    waiting: &mut [Vec<Entry>],
     ready: &mut BTreeSet<u32>,
-    waiter: Waiter,
+    waiter: Entry,
 ) -> Result<(), NoMemory>
     requires known { AreKnown (used_lists uses.now) }
     requires sized { length marks.now ≡ length uses.now }
     requires places { length waiting.old ≡ length uses.now }
     requires user { waiter.user < length uses.now }
-    requires woken { IsWoken (used_lists uses.now) marks.now waiter }
+    requires woken { IsEntry (used_lists uses.now) marks.now waiter }
     requires sound { IsSound (used_lists uses.now) marks.now (waiter_lists waiting.old) ready.old.keys }
     ensures { OnOk result (IsSettled (used_lists uses.now) marks.now (waiter_lists waiting.old) ready.old.keys (waiter_lists waiting.new) ready.new.keys waiter.user) }
 {
@@ -70,7 +43,7 @@ fn settle(
     match next_open(list, waiter.at, marks) {
         Some(at) => {
             let used = list[at];
-            waiting[used as usize].push(Waiter {
+            waiting[used as usize].push(Entry {
                 user: waiter.user,
                 at,
             })?;
@@ -87,7 +60,7 @@ fn settle(
 pub(crate) fn settle_all(
     uses: &[Vec<u32>],
     marks: &[bool],
-    waiting: &mut [Vec<Waiter>],
+    waiting: &mut [Vec<Entry>],
     ready: &mut BTreeSet<u32>,
 ) -> Result<(), NoMemory>
     requires few { length uses.now < 2 ^ 32 }
@@ -100,7 +73,7 @@ pub(crate) fn settle_all(
     ensures covered { OnOk result (AreCovered (used_lists uses.now) marks.now (waiter_lists waiting.new) ready.new.keys) }
 {
     for user in 0..uses.len() as u32 {
-        settle(uses, marks, waiting, ready, Waiter { user, at: 0 })?;
+        settle(uses, marks, waiting, ready, Entry { user, at: 0 })?;
     }
     Ok(())
 }
@@ -109,14 +82,14 @@ pub(crate) fn settle_all(
 fn wake(
     uses: &[Vec<u32>],
     marks: &[bool],
-    waiting: &mut [Vec<Waiter>],
+    waiting: &mut [Vec<Entry>],
     ready: &mut BTreeSet<u32>,
-    woken: &[Waiter],
+    woken: &[Entry],
 ) -> Result<(), NoMemory>
     requires known { AreKnown (used_lists uses.now) }
     requires sized { length marks.now ≡ length uses.now }
     requires places { length waiting.old ≡ length uses.now }
-    requires woken { All (IsWoken (used_lists uses.now) marks.now) woken.now }
+    requires woken { All (IsEntry (used_lists uses.now) marks.now) woken.now }
     requires sound { IsSound (used_lists uses.now) marks.now (waiter_lists waiting.old) ready.old.keys }
     ensures sound { OnOk result (IsSound (used_lists uses.now) marks.now (waiter_lists waiting.new) ready.new.keys) }
     ensures kept { OnOk result ((number : ℕ) → IsCovered marks.now (waiter_lists waiting.old) ready.old.keys number → IsCovered marks.now (waiter_lists waiting.new) ready.new.keys number) }
@@ -129,7 +102,7 @@ fn wake(
 }
 
 // takes out the list of those that wait for this module
-fn take_waiters(alloc: Global, waiting: &mut [Vec<Waiter>], number: u32) -> Vec<Waiter>
+fn take_waiters(alloc: Global, waiting: &mut [Vec<Entry>], number: u32) -> Vec<Entry>
     requires { number < length waiting.old }
     ensures taken { result.items ≡ waiters_on (waiter_lists waiting.old) number }
     ensures left { waiter_lists waiting.new ≡ slice_set (waiter_lists waiting.old) number [] }
@@ -142,7 +115,7 @@ pub(crate) fn mark(
     alloc: Global,
     uses: &[Vec<u32>],
     marks: &mut [bool],
-    waiting: &mut [Vec<Waiter>],
+    waiting: &mut [Vec<Entry>],
     ready: &mut BTreeSet<u32>,
     number: u32,
 ) -> Result<(), NoMemory>

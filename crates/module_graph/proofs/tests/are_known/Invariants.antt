@@ -1,5 +1,5 @@
 use Rattle.std.proofs.Common.{length, take}
-use Rattle.module_graph.proofs.Known.{AreBelow}
+use Rattle.module_graph.specs.Uses.{AreBelow}
 use Rattle.module_graph.proofs.tests.are_known.Given as goal
 
 abbrev pub invariant-loop-list : goal.invariant-loop-list

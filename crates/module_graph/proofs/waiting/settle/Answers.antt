@@ -3,7 +3,7 @@ use Rattle.std.proofs.lemmas.Grind.{common_steps}
 use Rattle.module_graph.specs.Uses.{used_lists}
 use Rattle.module_graph.specs.Marks.{IsUnmarked}
 use Rattle.module_graph.specs.Waiting.{waiter_lists}
-use Rattle.module_graph.specs.declared.waiting.Waiter.{Waiter}
+use Rattle.module_graph.specs.declared.entries.Entry.{Entry}
 use Rattle.module_graph.proofs.Listing.{known_below}
 use Rattle.module_graph.proofs.Waits.{is_ready, waits_on}
 use Rattle.module_graph.proofs.waiting.settle.Goals as goal
@@ -13,8 +13,8 @@ returns-in_ok-push-in-Some c =
     let uses = used_lists c.args.uses.now in
     let list = c.list_of-list.result.now in
     let at = c.in-Some.at in
-    let next : Waiter = record { user = c.args.waiter.user; at = at } in
-    let pushed = c.in_ok-push-in-Some.ensures.items ∙ ap (λ (v : Vec Waiter Global). v.items ++ next ∷ []) (sym c.index-waiting-used.is) in
+    let next : Entry = record { user = c.args.waiter.user; at = at } in
+    let pushed = c.in_ok-push-in-Some.ensures.items ∙ ap (λ (v : Vec Entry Global). v.items ++ next ∷ []) (sym c.index-waiting-used.is) in
     let below = known_below c.args.uses.now list c.args.waiter.user (length c.args.waiting.now) c.requires.known c.requires.user c.requires.places c.list_of-list.ensures in
     let lt : get_or list at 0 < length c.args.waiting.now = below at 0 c.in-Some.ensures.entry in
     waits_on uses c.args.marks.now c.args.waiting.now c.args.ready.now.keys c.args.waiter list at c.index-waiting-used.result c.push.new.self

@@ -1,8 +1,8 @@
 use Rattle.std.proofs.Common.{◌≡◌, [], length, All}
-use Rattle.module_graph.proofs.placing.no_waiters.Given as goal
+use Rattle.module_graph.proofs.entries.empty_lists.Given as goal
 
 abbrev pub invariant-loop-place : goal.invariant-loop-place
-invariant-loop-place l = record {
+invariant-loop-place g l = record {
   size : length l.lists.items ≡ l._place;
   none : All (λ list. list.items ≡ []) l.lists.items;
 }

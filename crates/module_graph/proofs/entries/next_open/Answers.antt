@@ -2,7 +2,7 @@ use Rattle.std.proofs.Common.{get_or, arith}
 use Rattle.std.proofs.lemmas.Grind.{common_steps}
 use Rattle.module_graph.specs.Marks.{IsMarked}
 use Rattle.module_graph.proofs.Marking.{marked_next, marked_whole}
-use Rattle.module_graph.proofs.waiting.next_open.Goals as goal
+use Rattle.module_graph.proofs.entries.next_open.Goals as goal
 
 pub entries-preserved : goal.entries-preserved
 entries-preserved c =

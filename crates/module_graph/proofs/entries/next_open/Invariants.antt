@@ -1,6 +1,6 @@
 use Rattle.std.proofs.Common.{◌-◌, length, All, take}
 use Rattle.module_graph.specs.Marks.{IsMarked}
-use Rattle.module_graph.proofs.waiting.next_open.Given as goal
+use Rattle.module_graph.proofs.entries.next_open.Given as goal
 
 abbrev pub invariant-entries : goal.invariant-entries
 invariant-entries l = All (IsMarked l.marks) (take l.at l.list)
