@@ -1,4 +1,5 @@
 pub mod Adding
+pub mod Keys
 pub mod Modules
 pub mod Once
 pub mod Rows

@@ -1,6 +1,6 @@
 -- What the lists of one module give, and the tables of modules.
 use Rattle.std.proofs.Common.{◌≡◌, ℕ, ◌+◌, ◌<◌, nat_eq, Bool, true, false, cond, List, [], ◌++◌, length, drop, get_or, map, Option, Some, None, slice_get, refl, sym, ap, subst, ◌∙◌}
-use Rattle.std.specs.Prelude.{◌&&◌, not, IfSome}
+use Rattle.std.specs.Prelude.{not, IfSome}
 use Rattle.std.specs.List.{flat_map, list_any}
 use Rattle.std.specs.Option.{option_map, option_map_or, unwrap_or}
 use Rattle.std.proofs.lemmas.Option.{slice_get-get_or, slice_get-map}
@@ -12,7 +12,7 @@ use Rattle.use_assoc.specs.Accessible.{accessible_of, bad_item, entities_of, exp
 use Rattle.use_assoc.specs.Table.{AreTables, found_in}
 use Rattle.use_assoc.specs.declared.table.Table.{Table}
 use Rattle.use_assoc.specs.declared.uses.UseList.{UseList}
-use Rattle.use_assoc.proofs.Adding.{all_append, kept_any, opened}
+use Rattle.use_assoc.proofs.Adding.{all_append, opened}
 use Rattle.use_assoc.proofs.Once.{pairs_once, same_number}
 
 -- ---- tables
@@ -53,35 +53,34 @@ module _ (exports : List (List Pair)) (lists : List UseList) (i at : ℕ) (list 
 
 -- ---- what one module gives
 
-module _ (found : List ℕ → List EntityId) (pairs : List Pair) (number : ℕ) (lists : List UseList) (old new : List Pair) (right : found ≡ entities_of pairs)
-    (items_added : new ≡ insert_all is_same_pair old (flat_map (gives found) (items_in (lists_of number lists)))) where
-  added : new ≡ insert_all is_same_pair old (items_of pairs (items_in (lists_of number lists)))
-  added = items_added ∙ ap (λ f. insert_all is_same_pair old (flat_map (gives f) (items_in (lists_of number lists)))) right
+module _ (found : List ℕ → List EntityId) (pairs : List Pair) (lists : List UseList) (old new : List Pair) (right : found ≡ entities_of pairs)
+    (items_added : new ≡ insert_all is_same_pair old (flat_map (gives found) (items_in lists))) where
+  added : new ≡ insert_all is_same_pair old (items_of pairs (items_in lists))
+  added = items_added ∙ ap (λ f. insert_all is_same_pair old (flat_map (gives f) (items_in lists))) right
 
-  with_rest : (takes : Bool) → takes ≡ list_any (λ list. nat_eq list.«module» number && not list.only) lists
-      → insert_all is_same_pair old (given_by pairs (lists_of number lists))
-      ≡ insert_all is_same_pair new (cond takes (others_of pairs (items_in (lists_of number lists))) [])
+  with_rest : (takes : Bool) → takes ≡ list_any (λ list. not list.only) lists
+      → insert_all is_same_pair old (given_by pairs lists) ≡ insert_all is_same_pair new (cond takes (others_of pairs (items_in lists)) [])
   with_rest takes e =
-      ap (λ b. insert_all is_same_pair old (items_of pairs (items_in (lists_of number lists)) ++ cond b (others_of pairs (items_in (lists_of number lists))) []))
-      (kept_any (λ list. nat_eq list.«module» number) (λ list. not list.only) lists ∙ sym e)
-      ∙ all_append is_same_pair old (items_of pairs (items_in (lists_of number lists))) (cond takes (others_of pairs (items_in (lists_of number lists))) [])
-      ∙ ap (λ xs. insert_all is_same_pair xs (cond takes (others_of pairs (items_in (lists_of number lists))) [])) (sym added)
+      ap (λ b. insert_all is_same_pair old (items_of pairs (items_in lists) ++ cond b (others_of pairs (items_in lists)) [])) (sym e)
+      ∙ all_append is_same_pair old (items_of pairs (items_in lists)) (cond takes (others_of pairs (items_in lists)) [])
+      ∙ ap (λ xs. insert_all is_same_pair xs (cond takes (others_of pairs (items_in lists)) [])) (sym added)
 
-  pub only_items : false ≡ list_any (λ list. nat_eq list.«module» number && not list.only) lists
-      → new ≡ insert_all is_same_pair old (given_by pairs (lists_of number lists))
+  pub only_items : false ≡ list_any (λ list. not list.only) lists → new ≡ insert_all is_same_pair old (given_by pairs lists)
   only_items e = sym (with_rest false e)
 
-  pub items_and_others : (last : List Pair) (is_source : List ℕ → Bool) → true ≡ list_any (λ list. nat_eq list.«module» number && not list.only) lists
-      → is_source ≡ is_among (sources_of (items_in (lists_of number lists))) → last ≡ insert_all is_same_pair new (others is_source pairs)
-      → last ≡ insert_all is_same_pair old (given_by pairs (lists_of number lists))
+  pub items_and_others : (last : List Pair) (is_source : List ℕ → Bool) → true ≡ list_any (λ list. not list.only) lists
+      → is_source ≡ is_among (sources_of (items_in lists)) → last ≡ insert_all is_same_pair new (others is_source pairs)
+      → last ≡ insert_all is_same_pair old (given_by pairs lists)
   items_and_others last is_source e sources others_added =
       others_added ∙ ap (λ test. insert_all is_same_pair new (others test pairs)) sources ∙ sym (with_rest true e)
 
 -- ---- what all modules give
 
-pub all_is : (exports : List (List Pair)) (lists : List UseList) (start given : List Pair) (modules : List ℕ) → start ≡ [] → modules ≡ modules_of lists
-    → given ≡ insert_all is_same_pair start (flat_map (λ number. given_by (exports_of exports number) (lists_of number lists)) modules) → given ≡ accessible_of exports lists
-all_is exports lists start given modules none order e =
-    e ∙ ap (λ s. insert_all is_same_pair s (flat_map (λ number. given_by (exports_of exports number) (lists_of number lists)) modules)) none
-    ∙ ap (λ ms. insert_all is_same_pair [] (flat_map (λ number. given_by (exports_of exports number) (lists_of number lists)) ms)) order
-    ∙ pairs_once (flat_map (λ number. given_by (exports_of exports number) (lists_of number lists)) (modules_of lists))
+module _ (exports : List (List Pair)) (lists : List UseList) (start given : List Pair) (modules : List ℕ) (found : ℕ → List UseList) where
+  pub all_is : start ≡ [] → modules ≡ modules_of lists → ((number : ℕ) → found number ≡ lists_of number lists)
+      → given ≡ insert_all is_same_pair start (flat_map (λ number. given_by (exports_of exports number) (found number)) modules) → given ≡ accessible_of exports lists
+  all_is none order right e =
+      e ∙ ap (λ s. insert_all is_same_pair s (flat_map (λ number. given_by (exports_of exports number) (found number)) modules)) none
+      ∙ ap (λ (f : ℕ → List UseList). insert_all is_same_pair [] (flat_map (λ number. given_by (exports_of exports number) (f number)) modules)) (λ i number. right number i)
+      ∙ ap (λ ms. insert_all is_same_pair [] (flat_map (λ number. given_by (exports_of exports number) (lists_of number lists)) ms)) order
+      ∙ pairs_once (flat_map (λ number. given_by (exports_of exports number) (lists_of number lists)) (modules_of lists))

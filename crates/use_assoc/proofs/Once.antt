@@ -110,6 +110,9 @@ names_among set names e = λ i name. (ap (λ s. is_among s name) (sym e) ∙ amo
 pub same_number : (x y : ℕ) → nat_eq x y ≡ true → x ≡ y
 same_number x y e = grind (arith, nat_tests)
 
+pub same_as_itself : (x : ℕ) → nat_eq x x ≡ true
+same_as_itself x = grind (arith, nat_tests)
+
 pub is_same : (a b : Pair) → is_same_pair a b ≡ true → a ≡ b
 is_same a b e =
     let both = and_parts (bytes_eq a.0 b.0) (nat_eq a.1.0 b.1.0) e in

@@ -1,3 +1,4 @@
 pub mod Access
 pub mod Accessible
+pub mod Groups
 pub mod Table

@@ -3,6 +3,7 @@
 
 mod access;
 mod given;
+mod groups;
 mod name_set;
 mod table;
 #[cfg(test)]

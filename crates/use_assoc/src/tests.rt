@@ -1,5 +1,8 @@
 //! What modules make public, and what the USE statements of a scoping unit give.
 
+mod plain;
+mod small;
+
 ghost use Rattle.std.specs.Prelude.{◌≡◌, ◌&&◌, length, nat_lt};
 ghost use Rattle.std.specs.List.{list_all};
 
@@ -7,6 +10,7 @@ use crate::{Access, UseFault, UseItem, UseList, accessible, exports};
 use ftn_base::{Edition, EntityId, Name};
 use sqlite_items::Items;
 use std::alloc::Global;
+use std::process::Abort;
 use std::test::Fail;
 
 const A: &[u8] = b"a";
@@ -136,13 +140,12 @@ fn statements_for_one_module_count_together(rt: HostRuntime) -> Result<(), Fail>
     Ok(())
 }
 
-#[test]
-fn two_thousand_statements_are_read_at_once(rt: HostRuntime) -> Result<(), Fail> {
-    let alloc = rt.alloc();
+/// Each statement is for a module of its own.
+fn are_read(rt: &impl Abort, alloc: Global, count: u32) -> Result<(), Fail> {
     let mut modules = Vec::new(alloc);
     let mut statements = Vec::new(alloc);
-    for module in 0..2000 {
-        modules.push(pairs(alloc, FIRST)?)?;
+    for module in 0..count {
+        modules.push(pairs(alloc, &[(A, 1)])?)?;
         statements.push(UseList {
             module,
             only: true,
@@ -152,6 +155,49 @@ fn two_thousand_statements_are_read_at_once(rt: HostRuntime) -> Result<(), Fail>
     assert_eq!(rt;
         given(alloc, &modules, &statements)?,
         pairs(alloc, &[(X, 1)])?
+    );
+    Ok(())
+}
+
+#[test]
+fn two_thousand_statements_are_read_at_once(rt: HostRuntime) -> Result<(), Fail> {
+    are_read(&rt, rt.alloc(), 2000)
+}
+
+#[test]
+fn two_hundred_thousand_statements_are_read_at_once(rt: HostRuntime) -> Result<(), Fail> {
+    are_read(&rt, rt.alloc(), 200_000)
+}
+
+#[test]
+fn modules_that_export_what_they_use_give_each_entity_by_each_name(
+    rt: HostRuntime,
+) -> Result<(), Fail> {
+    let alloc = rt.alloc();
+    let mut modules = vec![in alloc; pairs(alloc, FIRST)?]?;
+    // The second module renames one name of the first and hides another. The third takes three, one of them renamed.
+    let left = given(alloc, &modules, &lists(alloc, &[(0, false, &[(X, A)])])?)?;
+    let hidden = Access {
+        default_public: true,
+        public: names(alloc, &[])?,
+        private: names(alloc, &[C])?,
+    };
+    modules.push(exports(alloc, &pairs(alloc, &[(D, 4)])?, &left, &hidden)?)?;
+    let right = given(
+        alloc,
+        &modules,
+        &lists(alloc, &[(0, true, &[(Y, A), (B, B), (C, C)])])?,
+    )?;
+    let open = Access {
+        default_public: true,
+        public: names(alloc, &[])?,
+        private: names(alloc, &[])?,
+    };
+    modules.push(exports(alloc, &pairs(alloc, &[(D, 5)])?, &right, &open)?)?;
+    let statements = lists(alloc, &[(1, false, &[]), (2, false, &[(X, D)])])?;
+    assert_eq!(rt;
+        given(alloc, &modules, &statements)?,
+        pairs(alloc, &[(D, 4), (X, 1), (B, 2), (X, 5), (Y, 1), (C, 3)])?
     );
     Ok(())
 }

@@ -4,17 +4,19 @@ ghost use Rattle.std.specs.Prelude.{◌≡◌, ◌<◌, ◌^◌, ◌&&◌, ◌++
 ghost use Rattle.std.specs.List.{All, filter, flat_map, list_any};
 ghost use Rattle.std.specs.Str.{bytes_eq};
 ghost use Rattle.std.specs.Option.{option_map};
+ghost use Rattle.indexmap.specs.IndexMap.{keys};
 ghost use Rattle.indexmap.specs.IndexSet.{insert_all};
 ghost use Rattle.use_assoc.specs.Access.{is_among};
 ghost use Rattle.use_assoc.specs.Accessible as spec;
+ghost use Rattle.use_assoc.specs.Groups.{lists_in, found_lists};
 ghost use Rattle.use_assoc.specs.Table.{found_in, AreTables};
 ghost use Rattle.use_assoc.specs.declared.uses.UseFault.TheVariants as faults;
 
 use crate::given::Given;
+use crate::groups::{Groups, grouped};
 use crate::name_set::NameSet;
 use crate::table::{Table, Tables, exports_of};
 use ftn_base::{EntityId, Name, NoMemory};
-use indexmap::IndexSet;
 use sqlite_items::Items;
 use std::alloc::Global;
 use thiserror::Error;
@@ -90,16 +92,13 @@ fn add_lists(
     given: &mut Given,
     alloc: Global,
     table: &Table,
-    number: u32,
-    lists: &[UseList],
+    lists: &[&UseList],
 ) -> Result<(), NoMemory>
     ensures { OnOk result (given.new
-        ≡ insert_all spec.is_same_pair given.old (flat_map (spec.gives (found_in table.now.by_name)) (spec.items_in (spec.lists_of number lists.now)))) }
+        ≡ insert_all spec.is_same_pair given.old (flat_map (spec.gives (found_in table.now.by_name)) (spec.items_in (lists_in lists.now)))) }
 {
     for list in lists {
-        if list.module == number {
-            add_items(given, alloc, table, list.items.as_slice())?;
-        }
+        add_items(given, alloc, table, list.items.as_slice())?;
     }
     Ok(())
 }
@@ -129,22 +128,20 @@ fn add_sources(set: &mut NameSet, alloc: Global, items: &[UseItem]) -> Result<()
     Ok(())
 }
 
-fn sources(alloc: Global, number: u32, lists: &[UseList]) -> Result<NameSet, NoMemory>
-    ensures { IfOk result (λ set. is_among set ≡ is_among (spec.sources_of (spec.items_in (spec.lists_of number lists.now)))) }
+fn sources(alloc: Global, lists: &[&UseList]) -> Result<NameSet, NoMemory>
+    ensures { IfOk result (λ set. is_among set ≡ is_among (spec.sources_of (spec.items_in (lists_in lists.now)))) }
 {
     let mut set = NameSet::new(alloc);
     for list in lists {
-        if list.module == number {
-            add_sources(&mut set, alloc, list.items.as_slice())?;
-        }
+        add_sources(&mut set, alloc, list.items.as_slice())?;
     }
     Ok(set)
 }
 
-fn takes_all(number: u32, lists: &[UseList]) -> bool
-    ensures { result ≡ list_any (λ list. nat_eq list.«module» number && not list.only) lists.now }
+fn takes_all(lists: &[&UseList]) -> bool
+    ensures { result ≡ list_any (λ list. not list.now.only) lists.now }
 {
-    lists.iter().any(|list| list.module == number && !list.only)
+    lists.iter().any(|list| !list.only)
 }
 
 fn add_module(
@@ -152,28 +149,17 @@ fn add_module(
     alloc: Global,
     table: &Table,
     pairs: &[(Name, EntityId)],
-    number: u32,
-    lists: &[UseList],
+    lists: &[&UseList],
 ) -> Result<(), NoMemory>
     requires { found_in table.now.by_name ≡ spec.entities_of pairs.now }
-    ensures { OnOk result (given.new ≡ insert_all spec.is_same_pair given.old (spec.given_by pairs.now (spec.lists_of number lists.now))) }
+    ensures { OnOk result (given.new ≡ insert_all spec.is_same_pair given.old (spec.given_by pairs.now (lists_in lists.now))) }
 {
-    add_lists(given, alloc, table, number, lists)?;
-    if takes_all(number, lists) {
-        let sources = sources(alloc, number, lists)?;
+    add_lists(given, alloc, table, lists)?;
+    if takes_all(lists) {
+        let sources = sources(alloc, lists)?;
         add_others(given, alloc, &sources, pairs)?;
     }
     Ok(())
-}
-
-fn modules(alloc: Global, lists: &[UseList]) -> Result<IndexSet<u32>, NoMemory>
-    ensures { IfOk result (λ modules. modules.keys ≡ spec.modules_of lists.now) }
-{
-    let mut modules = IndexSet::new(alloc);
-    for list in lists {
-        modules.insert(list.module)?;
-    }
-    Ok(modules)
 }
 
 fn is_missing(table: &Table, name: &Name) -> bool
@@ -223,23 +209,21 @@ fn add_modules(
     tables: &mut Tables,
     alloc: Global,
     exports: &[Vec<(Name, EntityId)>],
-    lists: &[UseList],
-    modules: &[u32],
+    groups: &Groups,
 ) -> Result<(), NoMemory>
-    requires modules { All (λ number. number < length exports.now) modules.now }
+    requires modules { All (λ number. number < length exports.now) (keys groups.now) }
     requires tables { AreTables (map (λ pairs. pairs.items) exports.now) tables.old.by_module }
     ensures { OnOk result (given.new ≡ insert_all spec.is_same_pair given.old
-        (flat_map (λ number. spec.given_by (spec.exports_of (map (λ pairs. pairs.items) exports.now) number) (spec.lists_of number lists.now)) modules.now)) }
+        (flat_map (λ number. spec.given_by (spec.exports_of (map (λ pairs. pairs.items) exports.now) number) (found_lists groups.now number)) (keys groups.now))) }
 {
-    for number in modules {
+    for (number, lists) in groups.iter() {
         tables.prepare(alloc, exports, *number)?;
         add_module(
             given,
             alloc,
             tables.of(*number),
             exports_of(exports, *number),
-            *number,
-            lists,
+            lists.as_slice(),
         )?;
     }
     Ok(())
@@ -255,16 +239,9 @@ fn all_given(
     requires tables { AreTables (map (λ pairs. pairs.items) exports.now) tables.old.by_module }
     ensures { IfOk result (λ pairs. pairs.items ≡ spec.accessible_of (map (λ pairs. pairs.items) exports.now) lists.now) }
 {
-    let modules = modules(alloc, lists)?;
+    let groups = grouped(alloc, lists)?;
     let mut given = Given::new(alloc);
-    add_modules(
-        &mut given,
-        tables,
-        alloc,
-        exports,
-        lists,
-        modules.as_slice(),
-    )?;
+    add_modules(&mut given, tables, alloc, exports, &groups)?;
     given.pairs(alloc)
 }
 

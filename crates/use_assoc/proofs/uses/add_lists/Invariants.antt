@@ -2,10 +2,11 @@ use Rattle.std.proofs.Common.{◌≡◌, drop}
 use Rattle.indexmap.specs.IndexSet.{insert_all}
 use Rattle.std.specs.List.{flat_map}
 use Rattle.use_assoc.specs.Table.{found_in}
-use Rattle.use_assoc.specs.Accessible.{is_same_pair, gives, items_in, lists_of}
+use Rattle.use_assoc.specs.Groups.{lists_in}
+use Rattle.use_assoc.specs.Accessible.{is_same_pair, gives, items_in}
 use Rattle.use_assoc.proofs.uses.add_lists.Given as goal
 
 abbrev pub invariant-loop-list : goal.invariant-loop-list
 invariant-loop-list l =
-    insert_all is_same_pair l.initial.given (flat_map (gives (found_in l.table.by_name)) (items_in (lists_of l.number l.lists)))
-    ≡ insert_all is_same_pair l.given (flat_map (gives (found_in l.table.by_name)) (items_in (lists_of l.number (drop l.list-index l.lists))))
+    insert_all is_same_pair l.initial.given (flat_map (gives (found_in l.table.by_name)) (items_in (lists_in l.lists)))
+    ≡ insert_all is_same_pair l.given (flat_map (gives (found_in l.table.by_name)) (items_in (lists_in (drop l.list-index l.lists))))

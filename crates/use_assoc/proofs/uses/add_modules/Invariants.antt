@@ -1,12 +1,17 @@
-use Rattle.std.proofs.Common.{◌≡◌, map, drop}
+use Rattle.std.proofs.Common.{◌≡◌, ◌<◌, map, length}
+use Rattle.indexmap.specs.IndexMap.{keys}
 use Rattle.indexmap.specs.IndexSet.{insert_all}
-use Rattle.std.specs.List.{flat_map}
+use Rattle.std.specs.List.{All, flat_map}
+use Rattle.std.specs.Map.{keys_of}
 use Rattle.use_assoc.specs.Table.{AreTables}
-use Rattle.use_assoc.specs.Accessible.{is_same_pair, lists_of, exports_of, given_by}
+use Rattle.use_assoc.specs.Groups.{found_lists}
+use Rattle.use_assoc.specs.Accessible.{is_same_pair, exports_of, given_by}
 use Rattle.use_assoc.proofs.uses.add_modules.Given as goal
 
 abbrev pub invariant-loop-number : goal.invariant-loop-number
-invariant-loop-number l =
-    (insert_all is_same_pair l.initial.given (flat_map (λ number. given_by (exports_of (map (λ pairs. pairs.items) l.exports) number) (lists_of number l.lists)) l.modules)
-    ≡ insert_all is_same_pair l.given (flat_map (λ number. given_by (exports_of (map (λ pairs. pairs.items) l.exports) number) (lists_of number l.lists)) (drop l.number-index l.modules)))
-    × AreTables (map (λ pairs. pairs.items) l.exports) l.tables.by_module
+invariant-loop-number l = record {
+  pairs : insert_all is_same_pair l.initial.given (flat_map (λ number. given_by (exports_of (map (λ pairs. pairs.items) l.exports) number) (found_lists l.groups number)) (keys l.groups))
+      ≡ insert_all is_same_pair l.given (flat_map (λ number. given_by (exports_of (map (λ pairs. pairs.items) l.exports) number) (found_lists l.groups number)) (keys_of l.number-iterator));
+  modules : All (λ number. number < length l.exports) (keys_of l.number-iterator);
+  tables : AreTables (map (λ pairs. pairs.items) l.exports) l.tables.by_module;
+}

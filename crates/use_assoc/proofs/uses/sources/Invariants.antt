@@ -1,10 +1,11 @@
 use Rattle.std.proofs.Common.{◌≡◌, [], drop}
 use Rattle.indexmap.specs.IndexSet.{insert_all}
 use Rattle.std.specs.Str.{bytes_eq}
-use Rattle.use_assoc.specs.Accessible.{sources_of, items_in, lists_of}
+use Rattle.use_assoc.specs.Accessible.{sources_of, items_in}
+use Rattle.use_assoc.specs.Groups.{lists_in}
 use Rattle.use_assoc.proofs.uses.sources.Given as goal
 
 abbrev pub invariant-loop-list : goal.invariant-loop-list
 invariant-loop-list l =
-    insert_all bytes_eq [] (sources_of (items_in (lists_of l.number l.lists)))
-    ≡ insert_all bytes_eq l.set (sources_of (items_in (lists_of l.number (drop l.list-index l.lists))))
+    insert_all bytes_eq [] (sources_of (items_in (lists_in l.lists)))
+    ≡ insert_all bytes_eq l.set (sources_of (items_in (lists_in (drop l.list-index l.lists))))
