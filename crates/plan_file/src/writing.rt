@@ -7,7 +7,8 @@ use crate::plan::Plan;
 use ftn_base::NoMemory;
 use std::alloc::Global;
 
-fn put_count(alloc: Global, out: &mut Vec<u8>, count: usize) -> Result<(), NoMemory>
+/// Adds the field that tells how many files there are.
+pub(crate) fn put_count(alloc: Global, out: &mut Vec<u8>, count: usize) -> Result<(), NoMemory>
     ensures { OnOk result (out.new.items ≡ out.old.items ++ spec.count_field count) }
 {
     let number = count.to_string(alloc)?;
@@ -17,15 +18,28 @@ fn put_count(alloc: Global, out: &mut Vec<u8>, count: usize) -> Result<(), NoMem
     Ok(())
 }
 
-fn put_file(alloc: Global, out: &mut Vec<u8>, name: &[u8], text: &[u8]) -> Result<(), NoMemory>
-    ensures { OnOk result (out.new.items ≡ out.old.items ++ spec.entry (name.now, text.now)) }
+/// Adds the field with the length of a file's text and its name.
+pub(crate) fn put_file_field(
+    alloc: Global,
+    out: &mut Vec<u8>,
+    size: usize,
+    name: &[u8],
+) -> Result<(), NoMemory>
+    ensures { OnOk result (out.new.items ≡ out.old.items ++ spec.file_field size name.now) }
 {
-    let size = text.len().to_string(alloc)?;
+    let digits = size.to_string(alloc)?;
     out.extend_from_slice(b"file ")?;
-    out.extend_from_slice(size.as_bytes())?;
+    out.extend_from_slice(digits.as_bytes())?;
     out.extend_from_slice(b" ")?;
     out.extend_from_slice(name)?;
     out.extend_from_slice(b"\n")?;
+    Ok(())
+}
+
+fn put_file(alloc: Global, out: &mut Vec<u8>, name: &[u8], text: &[u8]) -> Result<(), NoMemory>
+    ensures { OnOk result (out.new.items ≡ out.old.items ++ spec.entry (name.now, text.now)) }
+{
+    put_file_field(alloc, out, text.len(), name)?;
     out.extend_from_slice(text)?;
     out.extend_from_slice(b"\n")?;
     Ok(())
