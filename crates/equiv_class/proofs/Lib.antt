@@ -1,0 +1,11 @@
+pub mod Absorbs
+pub mod Reached
+pub mod Answered
+pub mod Clashes
+pub mod Steps
+pub mod Seats
+pub mod MergedLists
+pub mod MergedTies
+pub mod MergedSpans
+pub mod Relabels
+pub mod Counted
