@@ -1,0 +1,8 @@
+//! The shapes of lists in COMMON, compared (Fortran 90, 5.5.2).
+#![tactic(auto)]
+
+mod lists;
+#[cfg(test)]
+mod tests;
+
+pub use lists::{Mismatch, same_shape};
