@@ -1,0 +1,10 @@
+pub mod Lines
+pub mod Code
+pub mod Pieces
+pub mod Logical
+pub mod Reading
+pub mod Breaks
+pub mod Layers
+pub mod Expressions
+pub mod Classes
+pub mod Kinds

@@ -1,0 +1,31 @@
+//! Tokens, trees and tables of Fortran 90 source text, and the definitions that readers of it meet.
+#![tactic(auto)]
+
+mod class;
+mod expr;
+mod form;
+mod parts;
+mod piece;
+mod table;
+#[cfg(test)]
+mod tests;
+mod token;
+mod unit;
+mod value;
+
+pub use class::Class;
+pub use expr::{Expr, Part};
+pub use form::Form;
+pub use parts::{
+    AccessWord, ArrayDecl, Attribute, AttributeKind, BlockName, BoundPair, CaseRange, CharLength,
+    CommonGroup, CommonMember, Designator, DoControl, EndWord, Ending, EntityDecl, ImplicitType,
+    IntentMode, IoStyle, LeaveWord, LengthSelector, LengthValue, LetterGroup, LetterRange,
+    NamedConstant, OnlyItem, ProcedureWord, Rename, SaveItem, TypeSpec,
+};
+pub use piece::{PieceKind, Spot};
+pub use table::{
+    Bound, Entity, EntityKind, Mention, Occurrence, Role, Scope, ScopeKind, StatementId, Tables,
+};
+pub use token::{Token, TokenKind, Tokens};
+pub use unit::{Arm, Block, FileTree, Statement, Unit};
+pub use value::{Kind, Value, Values};

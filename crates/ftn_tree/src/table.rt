@@ -1,0 +1,282 @@
+//! Scoping units, entities and occurrences of names.
+
+ghost use Rattle.std.specs.Prelude.{◌≡◌};
+ghost use Rattle.ftn_tree.specs.Kinds as spec;
+
+use ftn_base::{Bytes, EntityId, Letter, Name, Span};
+use sqlite_items::Items;
+
+/// What a scoping unit is (Fortran 90, 14.1.1).
+#[derive(Clone, Copy, Debug, PartialEq, Eq)]
+pub enum ScopeKind {
+    /// A main program.
+    Program,
+    /// A module.
+    Module,
+    /// A subroutine.
+    Subroutine,
+    /// A function.
+    Function,
+    /// An interface body, of a subroutine or of a function.
+    Body,
+}
+
+impl ScopeKind {
+    /// Whether it is a procedure that the project defines.
+    pub fn is_procedure(self) -> bool
+        ensures { result ≡ spec.is_procedure_scope self }
+    {
+        matches!(self, ScopeKind::Subroutine | ScopeKind::Function)
+    }
+
+    /// Whether executable statements may stand in it: in a main program or a procedure.
+    pub fn holds_executables(self) -> bool
+        ensures { result ≡ spec.holds_executables self }
+    {
+        matches!(
+            self,
+            ScopeKind::Program | ScopeKind::Subroutine | ScopeKind::Function
+        )
+    }
+}
+
+/// A statement of the project.
+#[derive(Clone, Copy, Debug, PartialEq, Eq, PartialOrd, Ord)]
+pub struct StatementId {
+    /// The number of its file.
+    pub file: u32,
+    /// Its number in the file.
+    pub statement: u32,
+}
+
+/// A scoping unit (14.1.1): a program unit, a procedure or an interface body. The scoping units of a project are numbered from 0,
+/// by file and by the offset of their openings.
+#[derive(Debug, Drop)]
+pub struct Scope {
+    /// What it is.
+    pub kind: ScopeKind,
+    /// Its folded name, with the host's path and `/` before it.
+    pub path: Bytes,
+    /// The number of its host (2.2.3): of the scoping unit around it, also for an interface body.
+    pub host: Option<u32>,
+    /// The first token of its opening.
+    pub opening: Span,
+    /// The statement that opens it, by which its [`crate::Unit`] is found.
+    pub unit: StatementId,
+    /// The implicit types of the letters from A to Z, 26 of them (5.3).
+    pub letters: Items<Letter>,
+}
+
+/// What an entity is (14.1).
+#[derive(Clone, Copy, Debug, PartialEq, Eq)]
+pub enum EntityKind {
+    /// A main program.
+    Program,
+    /// A module.
+    Module,
+    /// A subroutine.
+    Subroutine,
+    /// A function. Without RESULT its result is the same entity.
+    Function,
+    /// A variable other than a dummy argument or a result.
+    Variable,
+    /// A named constant.
+    Constant,
+    /// A dummy argument.
+    Dummy,
+    /// The result of a function with RESULT.
+    Answer,
+    /// A common block.
+    Block,
+    /// A generic name.
+    Generic,
+    /// A construct name.
+    Construct,
+    /// An intrinsic function.
+    Intrinsic,
+}
+
+impl EntityKind {
+    /// Whether it is a procedure that the project defines.
+    pub fn is_procedure(self) -> bool
+        ensures { result ≡ spec.is_procedure self }
+    {
+        matches!(self, EntityKind::Subroutine | EntityKind::Function)
+    }
+
+    /// Whether it is a variable, a dummy argument or the result after RESULT (2.4.3.1.1).
+    pub fn is_variable(self) -> bool
+        ensures { result ≡ spec.is_variable self }
+    {
+        matches!(
+            self,
+            EntityKind::Variable | EntityKind::Dummy | EntityKind::Answer
+        )
+    }
+
+    /// Whether it is a program unit's or a procedure's, and so has a scoping unit of its own.
+    pub fn is_unit(self) -> bool
+        ensures { result ≡ spec.is_unit self }
+    {
+        matches!(
+            self,
+            EntityKind::Program | EntityKind::Module | EntityKind::Subroutine | EntityKind::Function
+        )
+    }
+}
+
+/// An entity. Those of a project are numbered from 0, by file and by the offset of their first tokens, blank common last.
+#[derive(Debug, Drop)]
+pub struct Entity {
+    /// Its folded name. Blank common alone has none.
+    pub name: Option<Name>,
+    /// The scoping unit that it belongs to. Main programs, modules, external procedures, common blocks and intrinsic functions
+    /// belong to none.
+    pub home: Option<u32>,
+    /// What it is.
+    pub kind: EntityKind,
+    /// Its first token.
+    pub first: Span,
+    /// Whether its type comes from its first letter alone (5.3).
+    pub implicit: bool,
+    /// The scoping unit that it opens: that of a main program, a module or a procedure.
+    pub opens: Option<u32>,
+}
+
+/// Where in its statement a name stands, which tells how it is used there.
+#[derive(Clone, Copy, Debug, PartialEq, Eq)]
+pub enum Role {
+    /// After PROGRAM, MODULE, SUBROUTINE or FUNCTION.
+    Opens,
+    /// After END and its word.
+    Ends,
+    /// After EXIT or CYCLE.
+    Leaves,
+    /// Before DO.
+    Label,
+    /// Between slashes in COMMON or SAVE.
+    Slash,
+    /// After USE.
+    Module,
+    /// The name that an item of USE has in the module, also where it is the item's only name.
+    Source,
+    /// The name that an item of USE gives before `=>`.
+    Local,
+    /// In the list of dummy arguments.
+    Dummy,
+    /// After RESULT.
+    Answer,
+    /// An entity of a type declaration.
+    Declared,
+    /// In DIMENSION.
+    Dimensioned,
+    /// Before `=` in PARAMETER.
+    Constant,
+    /// In SAVE, not between slashes.
+    Saved,
+    /// In PUBLIC or PRIVATE.
+    Accessed,
+    /// In EXTERNAL.
+    External,
+    /// In INTRINSIC.
+    Intrinsic,
+    /// In INTENT.
+    Intended,
+    /// A member in COMMON.
+    Member,
+    /// In EQUIVALENCE.
+    Tied,
+    /// After INTERFACE.
+    Generic,
+    /// In MODULE PROCEDURE.
+    Specific,
+    /// After CALL.
+    Called,
+    /// In an expression, a target or an input item, with subscripts or arguments in parentheses.
+    Parenthesised,
+    /// In an expression, a target or an input item without these, or as a DO variable.
+    Plain,
+}
+
+impl Role {
+    /// Whether the place alone tells what the name denotes: it is the name of a unit that is opened or ended, of a construct or of a
+    /// common block, or it stands in USE. Such a name makes no implicit entity.
+    pub fn is_special(self) -> bool
+        ensures { result ≡ spec.is_special self }
+    {
+        matches!(
+            self,
+            Role::Opens
+                | Role::Ends
+                | Role::Leaves
+                | Role::Label
+                | Role::Slash
+                | Role::Module
+                | Role::Source
+                | Role::Local
+        )
+    }
+
+    /// Whether the name stands there as one that a specification declares (5): in a type declaration, DIMENSION, PARAMETER, SAVE,
+    /// EXTERNAL, INTRINSIC, INTENT, COMMON or EQUIVALENCE.
+    pub fn is_declaration(self) -> bool
+        ensures { result ≡ spec.is_declaration self }
+    {
+        matches!(
+            self,
+            Role::Declared
+                | Role::Dimensioned
+                | Role::Constant
+                | Role::Saved
+                | Role::External
+                | Role::Intrinsic
+                | Role::Intended
+                | Role::Member
+                | Role::Tied
+        )
+    }
+}
+
+/// A name in a statement.
+#[derive(Clone, Copy, Debug, PartialEq, Eq)]
+pub struct Mention {
+    /// Its token.
+    pub token: u32,
+    /// Where in the statement it stands.
+    pub role: Role,
+}
+
+/// A name token. Those of a project are numbered from 0, by file and by offset.
+#[derive(Debug, Drop)]
+pub struct Occurrence {
+    /// The token.
+    pub span: Span,
+    /// The scoping unit in which it stands. The names of an opening, also of an interface body's, stand in what is opened.
+    pub scope: u32,
+    /// The folded name.
+    pub name: Name,
+    /// Where in its statement it stands.
+    pub role: Role,
+}
+
+/// The scoping units of a project, its entities, and where its names occur.
+#[derive(Debug, Drop)]
+pub struct Tables {
+    /// The scoping units.
+    pub scopes: Items<Scope>,
+    /// The entities.
+    pub entities: Items<Entity>,
+    /// The occurrences of names.
+    pub occurrences: Items<Occurrence>,
+}
+
+/// Tables in which each name is bound to what it denotes (14.1.2).
+#[derive(Debug, Drop)]
+pub struct Bound {
+    /// The tables.
+    pub tables: Tables,
+    /// What each occurrence denotes.
+    pub denotes: Items<EntityId>,
+    /// For each scoping unit the local names and entities that its USE statements make accessible (11.3.2).
+    pub accessible: Items<Items<(Name, EntityId)>>,
+}
