@@ -10,3 +10,12 @@ pub mod OneProgram
 pub mod PlainLaws
 pub mod PiecesLaws
 pub mod ScanSteps
+pub mod ScanLaws
+pub mod LinesLaws
+pub mod RowsLaws
+pub mod FirstsLaws
+pub mod WholeText
+pub mod PlacesLaws
+pub mod PieceLaws
+pub mod ConstantLaws
+pub mod RunSteps

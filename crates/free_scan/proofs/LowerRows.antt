@@ -7,7 +7,7 @@ use Rattle.std.specs.Str.{bytes_eq}
 use Rattle.std.proofs.lemmas.Bool.Decides.{nat_tests}
 use Rattle.std.proofs.lemmas.Slice.Eq.{bytes_eq-Decides}
 use Rattle.ftn_base.specs.Letters.{fold_byte, folded}
-use Rattle.free_scan.specs.Lines.{onto_first}
+use Rattle.std.specs.List.{onto_first}
 use Rattle.free_scan.specs.Pieces.{Piece, pieces_of}
 use Rattle.free_scan.specs.Spelling.{Lexeme, word, whole, mark, lexeme_of, lexeme_rows, is_some_row, token_lines, rows_of}
 use Rattle.free_scan.specs.Tokens.{is_line_end, is_token, keep_if, line_after, token, tokens_from, tokens_of}

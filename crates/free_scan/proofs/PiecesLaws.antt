@@ -7,8 +7,9 @@ use Rattle.std.specs.Option.{option_map, option_and_then}
 use Rattle.std.proofs.lemmas.Bool.{cond_both}
 use Rattle.std.proofs.lemmas.List.Sums.{prefix_len-le-length, sum_by-cons}
 use Rattle.ftn_base.specs.Letters.{is_letter, is_digit, is_name_byte}
-use Rattle.free_scan.specs.Lines.{is_line_feed}
-use Rattle.free_scan.specs.Pieces.{Piece, is_mark, is_pair, mark_at, front, ArePieces, pieces_within, pieces_of}
+use Rattle.ftn_tree.specs.Lines.{is_line_feed}
+use Rattle.ftn_tree.specs.Pieces.{is_mark, is_pair}
+use Rattle.free_scan.specs.Pieces.{Piece, mark_at, front, ArePieces, pieces_within, pieces_of}
 
 -- a run of bytes is no longer than where it stands
 pub run_fits : (p : ℕ → Bool) (xs : List ℕ) → prefix_len p xs ≤ length xs

@@ -6,7 +6,10 @@ use Rattle.std.specs.Cmp.Lexicographic.{pointwise}
 use Rattle.std.proofs.lemmas.Bool.{eqb-true}
 use Rattle.std.proofs.lemmas.Bool.Decides.{nat_tests}
 use Rattle.ftn_base.specs.Letters.{is_within}
-use Rattle.free_scan.specs.Lines.{is_line_feed, lines, onto_first, is_plain_byte, is_plain_line, line_limit, is_plain}
+use Rattle.ftn_tree.specs.Lines.{is_line_feed}
+use Rattle.std.specs.List.{onto_first}
+use Rattle.ftn_tree.specs.Breaks.{line_limit}
+use Rattle.free_scan.specs.Lines.{lines, is_plain_byte, is_plain_line, is_plain}
 use Rattle.free_scan.specs.PlainWalk.{plain_from}
 
 -- whether lines are plain, where that many plain bytes stand before the first

@@ -5,7 +5,6 @@ use Rattle.std.specs.List.{slice_split, onto_first}
 use Rattle.std.proofs.lemmas.List.Elements.{filter-append}
 use Rattle.std.proofs.lemmas.List.{append-nil}
 use Rattle.std.proofs.lemmas.Bool.Decides.{nat_tests}
-use Rattle.free_scan.specs.Lines as lines
 use Rattle.free_scan.specs.Reading.{is_comma, fitting}
 use Rattle.free_scan.specs.Spelling.{lexeme_of, number_of, is_some_row, token_lines, rows_of}
 use Rattle.free_scan.specs.Tokens.{is_line_end}
@@ -44,7 +43,7 @@ abbrev ends : Token → Bool
 ends token = is_line_end token.kind
 
 alike_step : (b : Bool) (x : Token) (told : List (List Token)) (split : List (List Token)) → Alike split told
-    → Alike (cond b ([] ∷ split) (onto_first x split)) (cond b ([] ∷ told) (lines.onto_first x told))
+    → Alike (cond b ([] ∷ split) (onto_first x split)) (cond b ([] ∷ told) (onto_first x told))
 alike_step true x told split (inl e) = inl (ap (λ rows. [] ∷ rows) e)
 alike_step true x told split (inr e) = inr (ap (λ rows. [] ∷ rows) e)
 alike_step false x [] split (inl e) = inl (ap (onto_first x) e)

@@ -8,3 +8,9 @@ pub mod Fresh
 pub mod FirstForm
 pub mod PlainWalk
 pub mod Onward
+pub mod Firsts
+pub mod Scanning
+pub mod LinesLeft
+pub mod RowsLeft
+pub mod ScanFaults
+pub mod Runs

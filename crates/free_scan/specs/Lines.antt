@@ -1,23 +1,13 @@
 -- Lines of a text (Fortran 90, 3.3.1). Each has its LF; the last one may lack it.
 use Rattle.std.specs.Prelude.{ℕ, ◌+◌, Bool, ◌&&◌, ◌||◌, ◌==◌, nat_le, List, [], ◌∷◌, length, if◌then◌else◌}
-use Rattle.std.specs.List.{list_all, ends_with}
+use Rattle.std.specs.List.{list_all, ends_with, onto_first}
 use Rattle.ftn_base.specs.Letters.{is_within}
-
--- x in front of the first list
-abbrev pub onto_first : {X : Type 0} → X → List (List X) → List (List X)
-onto_first x [] = (x ∷ []) ∷ []
-onto_first x (xs ∷ rest) = (x ∷ xs) ∷ rest
-
-abbrev pub is_line_feed : ℕ → Bool
-is_line_feed b = b == 10
+use Rattle.ftn_tree.specs.Breaks.{line_limit}
+use Rattle.ftn_tree.specs.Lines.{is_line_feed}
 
 abbrev pub lines : List ℕ → List (List ℕ)
 lines [] = []
 lines (b ∷ rest) = if is_line_feed b then (b ∷ []) ∷ lines rest else onto_first b (lines rest)
-
--- how many bytes a line may have before its LF
-abbrev pub line_limit : ℕ
-line_limit = 132
 
 abbrev pub is_plain_byte : ℕ → Bool
 is_plain_byte b = is_line_feed b || is_within 32 126 b

@@ -1,27 +1,17 @@
 -- Pieces of a text in first form: blanks, comments, ends of lines and tokens, each as long as possible
 -- (Fortran 90, 3.2 and 3.3.1).
-use Rattle.std.specs.Prelude.{◌≡◌, ℕ, zero, suc, ◌+◌, Bool, not, ◌==◌, if◌then◌else◌, List, [], ◌∷◌, length, drop, codes, Option, Some, None}
-use Rattle.std.specs.List.{prefix_len, list_any}
+use Rattle.std.specs.Prelude.{◌≡◌, ℕ, zero, suc, ◌+◌, not, ◌==◌, if◌then◌else◌, List, [], ◌∷◌, length, drop, Option, Some, None}
+use Rattle.std.specs.List.{prefix_len}
 use Rattle.std.specs.Option.{option_map, option_and_then}
-use Rattle.std.specs.Str.{bytes_eq}
 use Rattle.ftn_base.specs.Letters.{is_letter, is_digit, is_name_byte}
-use Rattle.free_scan.specs.Lines.{is_line_feed}
+use Rattle.ftn_tree.specs.Lines.{is_line_feed}
+use Rattle.ftn_tree.specs.Pieces.{is_mark, is_pair}
 use Rattle.free_scan.specs.declared.first_form.token.PieceKind.{PieceKind}
 use Rattle.free_scan.specs.declared.first_form.token.PieceKind.TheVariants.{Blank, Comment, LineEnd, Word, Whole, Mark}
 
 -- what a piece is, and how many bytes it has
 abbrev pub Piece : Type 0
 Piece = PieceKind × ℕ
-
--- two bytes that make one mark
-abbrev pub pairs : List (List ℕ)
-pairs = codes "**" ∷ codes "//" ∷ codes "==" ∷ codes "/=" ∷ codes "<=" ∷ codes ">=" ∷ codes "=>" ∷ codes "::" ∷ codes "(/" ∷ codes "/)" ∷ []
-
-abbrev pub is_pair : ℕ → ℕ → Bool
-is_pair a b = list_any (λ pair. bytes_eq pair (a ∷ b ∷ [])) pairs
-
-abbrev pub is_mark : ℕ → Bool
-is_mark b = list_any (λ mark. mark == b) (codes "(),=+-*/<>:%")
 
 abbrev pub mark_at : ℕ → List ℕ → Option Piece
 mark_at a [] = if is_mark a then Some (Mark, 1) else None

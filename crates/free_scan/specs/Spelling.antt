@@ -13,7 +13,7 @@ use Rattle.free_scan.specs.declared.first_form.program.Sum.{Sum}
 use Rattle.free_scan.specs.declared.first_form.program.Statement.{Statement}
 use Rattle.free_scan.specs.declared.first_form.program.Statement.TheVariants as statements
 use Rattle.free_scan.specs.declared.first_form.program.Program.{Program}
-use Rattle.free_scan.specs.Lines.{onto_first}
+use Rattle.std.specs.List.{onto_first}
 use Rattle.free_scan.specs.Tokens.{is_line_end}
 
 -- what a token says, apart from its place: a word in lower case, the value of a whole number, or a mark

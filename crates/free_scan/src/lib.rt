@@ -2,3 +2,6 @@
 #![tactic(auto)]
 
 pub mod first_form;
+mod free_form;
+
+pub use free_form::{ScanFault, one_row_of_pieces, scan};

@@ -4,7 +4,7 @@ use Rattle.std.specs.List.{list_all}
 use Rattle.std.proofs.lemmas.Bool.{and_parts, and_from}
 use Rattle.ftn_base.specs.Keywords.{is_keyword, is_intrinsic}
 use Rattle.ftn_base.specs.Names.{is_name}
-use Rattle.free_scan.specs.Lines.{onto_first}
+use Rattle.std.specs.List.{onto_first}
 use Rattle.free_scan.specs.Spelling.{Lexeme, word, whole, mark, lexeme, lexeme_of, lexeme_rows, token_lines, rows_of, is_some_row, commas, spell_declaration, spell_statement, spell_program}
 use Rattle.free_scan.specs.Clean.{is_free_name, variables}
 use Rattle.free_scan.specs.Tokens.{is_line_end}

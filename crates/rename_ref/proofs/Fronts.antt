@@ -6,8 +6,9 @@ use Rattle.std.proofs.lemmas.Bool.Decides.{nat_tests}
 use Rattle.std.proofs.lemmas.List.Sums.{prefix_len-le-length}
 use Rattle.ftn_base.specs.Letters.{is_letter, is_digit, is_name_byte}
 use Rattle.ftn_base.specs.Names.{is_name}
-use Rattle.free_scan.specs.Lines.{is_line_feed}
-use Rattle.free_scan.specs.Pieces.{Piece, front, mark_at, is_pair, is_mark}
+use Rattle.ftn_tree.specs.Lines.{is_line_feed}
+use Rattle.ftn_tree.specs.Pieces.{is_pair, is_mark}
+use Rattle.free_scan.specs.Pieces.{Piece, front, mark_at}
 use Rattle.free_scan.specs.declared.first_form.token.PieceKind.{PieceKind}
 use Rattle.free_scan.specs.declared.first_form.token.PieceKind.TheVariants.{Blank, Comment, LineEnd, Word, Whole, Mark}
 

@@ -6,8 +6,11 @@ use Rattle.std.proofs.lemmas.Bool.Decides.{nat_tests, Decides-eqb}
 use Rattle.std.proofs.lemmas.Slice.Eq.{ends_is}
 use Rattle.ftn_base.specs.Letters.{is_letter, is_digit, is_name_byte, folded}
 use Rattle.ftn_base.specs.Names.{is_name}
-use Rattle.free_scan.specs.Lines.{onto_first, is_line_feed, lines, is_plain_byte, is_plain_line, is_plain}
-use Rattle.free_scan.specs.Pieces.{front, mark_at, is_pair, is_mark}
+use Rattle.std.specs.List.{onto_first}
+use Rattle.ftn_tree.specs.Lines.{is_line_feed}
+use Rattle.free_scan.specs.Lines.{lines, is_plain_byte, is_plain_line, is_plain}
+use Rattle.ftn_tree.specs.Pieces.{is_pair, is_mark}
+use Rattle.free_scan.specs.Pieces.{front, mark_at}
 use Rattle.free_scan.specs.Tokens.{is_line_end, line_after}
 use Rattle.free_scan.specs.declared.first_form.token.PieceKind.{PieceKind}
 use Rattle.free_scan.specs.declared.first_form.token.PieceKind.TheVariants.{Blank, Comment, LineEnd, Word, Whole, Mark}

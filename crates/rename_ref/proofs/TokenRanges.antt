@@ -7,8 +7,9 @@ use Rattle.std.proofs.lemmas.Bool.{cond_both}
 use Rattle.std.proofs.lemmas.List.Sums.{prefix_len-le-length}
 use Rattle.std.proofs.lemmas.Option.{option_and_then_some}
 use Rattle.ftn_base.specs.Letters.{is_letter, is_digit, is_name_byte}
-use Rattle.free_scan.specs.Lines.{is_line_feed}
-use Rattle.free_scan.specs.Pieces.{Piece, is_pair, is_mark, mark_at, front, pieces_within, pieces_of}
+use Rattle.ftn_tree.specs.Lines.{is_line_feed}
+use Rattle.ftn_tree.specs.Pieces.{is_pair, is_mark}
+use Rattle.free_scan.specs.Pieces.{Piece, mark_at, front, pieces_within, pieces_of}
 use Rattle.free_scan.specs.Tokens.{is_token, line_after, token, keep_if, tokens_from, tokens_of}
 use Rattle.free_scan.specs.declared.first_form.token.PieceKind.{PieceKind}
 use Rattle.free_scan.specs.declared.first_form.token.PieceKind.TheVariants.{Blank, Comment, LineEnd, Word, Whole, Mark}

@@ -8,7 +8,7 @@ use Rattle.std.proofs.lemmas.List.Sums.{sum_by_push}
 use Rattle.std.proofs.lemmas.Slice.Eq.{bytes_eq-Decides}
 use Rattle.ftn_base.specs.Keywords.{is_keyword}
 use Rattle.ftn_base.specs.Letters.{folded}
-use Rattle.free_scan.specs.Lines.{onto_first}
+use Rattle.std.specs.List.{onto_first}
 use Rattle.free_scan.specs.Spelling.{Lexeme, word, whole, mark, lexeme_of, lexeme_rows, token_lines, is_some_row}
 use Rattle.free_scan.specs.Tokens.{value_of, line_after}
 use Rattle.free_scan.specs.declared.first_form.token.PieceKind.TheVariants.{Blank, Comment, LineEnd, Word, Whole, Mark}

@@ -1,14 +1,14 @@
 //! Pieces and tokens of a text.
 
-ghost use Rattle.std.specs.List.{list_any, prefix_len, sum_by};
+ghost use Rattle.std.specs.List.{prefix_len, sum_by};
 ghost use Rattle.std.specs.Prelude.{◌≡◌, ◌<◌, ◌≤◌, ◌^◌, ◌+◌, ◌++◌, ◌∷◌, ◌↔◌, ℕ, List, [], Some, not, length, IfOk, OnOk, IfSome};
-ghost use Rattle.std.specs.Str.{bytes_eq};
 ghost use Rattle.ftn_base.specs.Letters.{is_digit as digit, is_name_byte as name_byte};
-ghost use Rattle.free_scan.specs.Lines.{is_line_feed};
+ghost use Rattle.ftn_tree.specs.Lines.{is_line_feed};
 ghost use Rattle.free_scan.specs.Pieces as pieces;
 ghost use Rattle.free_scan.specs.Tokens as tokens;
 ghost use Rattle.free_scan.specs.Tokens.{keep_if, tokens_of};
 
+use crate::free_form::{is_mark, is_pair};
 use ftn_base::{Bytes, NoMemory, Range, folded, is_digit, is_letter, is_name_byte};
 use sqlite_items::Items;
 use std::alloc::Global;
@@ -43,11 +43,6 @@ pub struct Token {
     pub value: Bytes,
 }
 
-/// Two bytes that make one mark (3.2.3, 3.2.6).
-const PAIRS: [&[u8]; 10] = [
-    b"**", b"//", b"==", b"/=", b"<=", b">=", b"=>", b"::", b"(/", b"/)",
-];
-
 /// How many bytes stand before the next LF.
 fn count_to_line_end(rest: &[u8]) -> usize
     ensures { result ≡ prefix_len (λ c. not (is_line_feed c)) rest.now }
@@ -67,34 +62,6 @@ fn count_digits(rest: &[u8]) -> usize
     ensures { result ≡ prefix_len digit rest.now }
 {
     rest.iter().take_while(|byte| is_digit(**byte)).count()
-}
-
-/// Whether the pair is these two bytes.
-fn is_text(pair: &[u8], first: u8, second: u8) -> bool
-    ensures { result ≡ bytes_eq pair.now (first ∷ second ∷ []) }
-{
-    pair == [first, second].as_slice()
-}
-
-/// Whether one of the pairs is these two bytes.
-fn is_one_of(pairs: &[&[u8]], first: u8, second: u8) -> bool
-    ensures { result ≡ list_any (λ pair. bytes_eq pair.now (first ∷ second ∷ [])) pairs.now }
-{
-    pairs.iter().any(|pair| is_text(pair, first, second))
-}
-
-/// Whether the two bytes make one mark.
-fn is_pair(first: u8, second: u8) -> bool
-    ensures { result ≡ pieces.is_pair first second }
-{
-    is_one_of(&PAIRS, first, second)
-}
-
-/// Whether the byte is a mark by itself.
-fn is_mark(byte: u8) -> bool
-    ensures { result ≡ pieces.is_mark byte }
-{
-    b"(),=+-*/<>:%".iter().any(|mark| *mark == byte)
 }
 
 /// The mark that begins with this byte, and what follows it.
