@@ -1,0 +1,5 @@
+pub mod LineRows
+pub mod Rising
+pub mod Turns
+pub mod LineStarts
+pub mod Held
