@@ -181,7 +181,7 @@ const LINES: &[&[u8]] = &[
     b"  integer, parameter :: limit = 2147483647\n",
     b"  Character(len = 8) :: Word, other_word\n",
     b"  logical :: is_last(10), lasts(2, 3)\n",
-    b"  common /shared/ first, second, third\n",
+    b"  common /values/ first, second, third\n",
     b"  total = total + count * (limit - 1) / 2 ** 3\n",
     b"  word = 'it''s' // \"a ! in text; & more\"\n",
     b"  ! A comment with ' and & and ;\n",
