@@ -1,0 +1,7 @@
+use Rattle.std.proofs.Common.{◌≡◌, ℕ, ◌<◌, ◌≤◌, ◌^◌, sum, take}
+use Rattle.storage_layout.specs.Members.{sizes_of}
+use Rattle.storage_layout.specs.Faults.{IsPastLimit}
+use Rattle.storage_layout.proofs.limits.too_large.Given as goal
+
+abbrev pub invariant-loop-at : goal.invariant-loop-at
+invariant-loop-at l = (l.at ≤ l.total) × (l.total ≡ sum (take l.at (sizes_of l.objects))) × (l.total ≤ 2 ^ 24) × ((earlier : ℕ) → earlier < l.at → IsPastLimit (sizes_of l.objects) earlier → ⊥)

@@ -1,0 +1,6 @@
+use Rattle.std.proofs.Common.{◌≡◌, take}
+use Rattle.storage_layout.specs.Members.{all_members}
+use Rattle.storage_layout.proofs.member.members_of_all.Given as goal
+
+abbrev pub invariant-loop-list : goal.invariant-loop-list
+invariant-loop-list l = l.members.items ≡ all_members (take l.list-index l.blocks)

@@ -1,0 +1,5 @@
+use Rattle.storage_layout.specs.Spans.{AreSpans}
+use Rattle.storage_layout.proofs.span.spans_of.Given as goal
+
+abbrev pub invariant-loop-number : goal.invariant-loop-number
+invariant-loop-number l = AreSpans l.objects l.found.class.items l.found.offset.items l.group l.number l.spans.items

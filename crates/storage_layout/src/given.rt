@@ -1,0 +1,27 @@
+//! Variables and the lists of common blocks.
+
+use ftn_base::Sort;
+
+/// A variable or a result that takes storage units.
+#[derive(Clone, Copy, Debug, PartialEq, Eq)]
+pub struct Object {
+    /// How many storage units it takes (14.6.3.1); 2^32 - 1 stands for every greater number too.
+    pub units: u32,
+    /// The sort of its units.
+    pub sort: Sort,
+    /// The scoping unit that it belongs to.
+    pub scope: u32,
+}
+
+/// A list of a common block in COMMON statements of one scoping unit (5.5.2).
+#[derive(Debug, Drop)]
+pub struct BlockList {
+    /// The number of the block.
+    pub block: u32,
+    /// Whether the block has a name; else it is blank common.
+    pub named: bool,
+    /// The scoping unit.
+    pub scope: u32,
+    /// The objects of the list, in order.
+    pub members: Vec<u32>,
+}
