@@ -4,18 +4,24 @@
 mod class;
 mod expr;
 mod form;
+mod lexeme;
+mod mark;
 mod parts;
 mod piece;
 mod table;
 #[cfg(test)]
 mod tests;
 mod token;
+#[cfg(test)]
+mod token_tests;
 mod unit;
 mod value;
 
 pub use class::Class;
 pub use expr::{Expr, Part};
 pub use form::Form;
+pub use lexeme::Lexeme;
+pub use mark::{Content, Mark, Region, Section, Title};
 pub use parts::{
     AccessWord, ArrayDecl, Attribute, AttributeKind, BlockName, BoundPair, CaseRange, CharLength,
     CommonGroup, CommonMember, Designator, DoControl, EndWord, Ending, EntityDecl, ImplicitType,
