@@ -107,6 +107,7 @@ fn read_text<L>(
     requires room { steps.old + length text.now < 2 ^ 64 }
     ensures tokens { IfOk result (λ read. read.0 ≡ tokens_of text.now) }
     ensures firsts { IfOk result (λ read. IsFirstOf read.1 (breaches_of edition text.now)) }
+    ensures few { IfOk result (λ read. length read.0.statements < 2 ^ 32) }
     ensures ticks { OnOk result (steps.new ≡ steps.old + length text.now) }
     ensures at_most { steps.new ≤ steps.old + length text.now }
     ensures at_least { steps.old ≤ steps.new }
@@ -167,6 +168,7 @@ pub fn scan<L>(
     requires short { length text.now ≤ 4194304 }
     requires room { steps.old + length text.now < 2 ^ 64 }
     ensures tokens { IfOk result (λ tokens. (breaches_of edition text.now ≡ []) × (tokens ≡ tokens_of text.now)) }
+    ensures few { IfOk result (λ tokens. length tokens.statements < 2 ^ 32) }
     ensures broken { IfErr result (λ fault. IsScanFault edition text.now fault) }
     ensures ticks { OnOk result (steps.new ≡ steps.old + length text.now) }
     ensures at_most { steps.new ≤ steps.old + length text.now }
