@@ -1,0 +1,9 @@
+-- Operands that are joined from the right.
+use Rattle.std.proofs.Common.{◌≡◌, refl, ap, ℕ, List, [], ◌∷◌, ◌++◌}
+use Rattle.ftn_tree.specs.declared.expr.Expr.{Expr}
+use Rattle.ftn_tree.specs.declared.expr.Expr.TheVariants as e
+use Rattle.expr_parse.specs.Operators.{chained}
+
+pub chained_last : (steps : List (Expr × ℕ)) (step : Expr × ℕ) (last : Expr) → chained (steps ++ step ∷ []) last ≡ chained steps (e.Binary step.1 step.0 last)
+chained_last [] step last = refl
+chained_last (first ∷ steps) step last = ap (λ right. e.Binary first.1 first.0 right) (chained_last steps step last)

@@ -1,0 +1,104 @@
+-- How deep parentheses nest is found by counting them.
+use Rattle.std.proofs.Common.{◌≡◌, refl, sym, ◌∙◌, arith, ℕ, zero, suc, ◌+◌, ◌<◌, Bool, true, false, ◌||◌, List, [], ◌∷◌, length, take}
+use Rattle.std.specs.Prelude.{nat_lt, filter, cond, IsTrue, ◌↔◌}
+use Rattle.std.proofs.lemmas.Grind.{common_steps}
+use Rattle.ftn_tree.specs.declared.token.Token.{Token}
+use Rattle.ftn_tree.specs.Misfits.{is_open, is_close, deepest, IsDeep}
+use Rattle.expr_parse.specs.Faults.{one_if, deep_from, is_deep}
+
+abbrev count : (Token → Bool) → List Token → ℕ
+count test row = length (filter test row)
+
+count_more : (test : Token → Bool) (here : Token) (row : List Token) → count test (here ∷ row) ≡ one_if (test here) + count test row
+count_more test here row = by (test here) where
+  by : (holds : Bool) → length (cond holds (here ∷ filter test row) (filter test row)) ≡ one_if holds + count test row
+  by true = grind (arith, common_steps)
+  by false = grind (arith, common_steps)
+
+-- some front is too deep, where so many were opened and closed before
+record DeepAt (opened closed : ℕ) (row : List Token) : Type 0 where
+  front : ℕ
+  many : deepest + (closed + count is_close (take front row)) < opened + count is_open (take front row)
+
+-- a front of one token and more
+longer_front : (opened closed front : ℕ) (here : Token) (rest : List Token) → deepest + ((closed + one_if (is_close here)) + count is_close (take front rest)) < (opened + one_if (is_open here)) + count is_open (take front rest)
+    → DeepAt opened closed (here ∷ rest)
+longer_front opened closed front here rest many = record {
+  front = suc front;
+  many = by (count is_close (here ∷ take front rest)) (count is_open (here ∷ take front rest)) (one_if (is_close here)) (one_if (is_open here)) (count is_close (take front rest)) (count is_open (take front rest))
+      (count_more is_close here (take front rest)) (count_more is_open here (take front rest)) many;
+} where
+  by : (closes opens close_here open_here closes_after opens_after : ℕ) → closes ≡ close_here + closes_after → opens ≡ open_here + opens_after
+      → deepest + ((closed + close_here) + closes_after) < (opened + open_here) + opens_after → deepest + (closed + closes) < opened + opens
+  by closes opens close_here open_here closes_after opens_after a b c = omega arith
+
+deep_found : (row : List Token) (opened closed : ℕ) → deep_from opened closed row ≡ true → DeepAt opened closed row
+deep_found [] opened closed e = absurd (cc e)
+deep_found (here ∷ rest) opened closed e = by (nat_lt (deepest + (closed + one_if (is_close here))) (opened + one_if (is_open here))) refl e (λ e. deep_found rest (opened + one_if (is_open here)) (closed + one_if (is_close here)) e) where
+  at_once : (closes opens : ℕ) → nat_lt (deepest + closes) opens ≡ true → deepest + (closes + 0) < opens + 0
+  at_once closes opens e = grind arith
+
+  by : (deep : Bool) → nat_lt (deepest + (closed + one_if (is_close here))) (opened + one_if (is_open here)) ≡ deep
+      → (deep || deep_from (opened + one_if (is_open here)) (closed + one_if (is_close here)) rest) ≡ true
+      → (deep_from (opened + one_if (is_open here)) (closed + one_if (is_close here)) rest ≡ true → DeepAt (opened + one_if (is_open here)) (closed + one_if (is_close here)) rest) → DeepAt opened closed (here ∷ rest)
+  by true deep e later = longer_front opened closed 0 here rest (at_once (closed + one_if (is_close here)) (opened + one_if (is_open here)) deep)
+  by false deep e later = let found = later e in longer_front opened closed found.front here rest found.many
+
+empty_front : (opened closed : ℕ) → (deepest + closed < opened → ⊥) → deepest + (closed + 0) < opened + 0 → ⊥
+empty_front opened closed small many = small (same many) where
+  same : deepest + (closed + 0) < opened + 0 → deepest + closed < opened
+  same many = omega arith
+
+deep_none : (row : List Token) (opened closed : ℕ) → deep_from opened closed row ≡ false → (deepest + closed < opened → ⊥) → (front : ℕ)
+    → deepest + (closed + count is_close (take front row)) < opened + count is_open (take front row) → ⊥
+deep_none [] opened closed e small zero many = empty_front opened closed small many
+deep_none [] opened closed e small (suc front) many = empty_front opened closed small many
+deep_none (here ∷ rest) opened closed e small zero many = empty_front opened closed small many
+deep_none (here ∷ rest) opened closed e small (suc front) many =
+    by (nat_lt (deepest + (closed + one_if (is_close here))) (opened + one_if (is_open here))) refl e
+    (λ e small many. deep_none rest (opened + one_if (is_open here)) (closed + one_if (is_close here)) e small front many) where
+      shallow : (closes opens : ℕ) → nat_lt (deepest + closes) opens ≡ false → deepest + closes < opens → ⊥
+      shallow closes opens e many = absurd (cc (sym e ∙ is_lt many)) where
+        is_lt : deepest + closes < opens → nat_lt (deepest + closes) opens ≡ true
+        is_lt many = grind arith
+
+      onward : (closes opens close_here open_here closes_after opens_after : ℕ) → closes ≡ close_here + closes_after → opens ≡ open_here + opens_after
+          → deepest + (closed + closes) < opened + opens → deepest + ((closed + close_here) + closes_after) < (opened + open_here) + opens_after
+      onward closes opens close_here open_here closes_after opens_after a b c = omega arith
+
+      by : (deep : Bool) → nat_lt (deepest + (closed + one_if (is_close here))) (opened + one_if (is_open here)) ≡ deep
+          → (deep || deep_from (opened + one_if (is_open here)) (closed + one_if (is_close here)) rest) ≡ false
+          → (deep_from (opened + one_if (is_open here)) (closed + one_if (is_close here)) rest ≡ false → (deepest + (closed + one_if (is_close here)) < opened + one_if (is_open here) → ⊥)
+          → deepest + ((closed + one_if (is_close here)) + count is_close (take front rest)) < (opened + one_if (is_open here)) + count is_open (take front rest) → ⊥) → ⊥
+      by true deep e later = absurd (cc e)
+      by false deep e later =
+          later e (shallow (closed + one_if (is_close here)) (opened + one_if (is_open here)) deep)
+          (onward (count is_close (here ∷ take front rest)) (count is_open (here ∷ take front rest)) (one_if (is_close here)) (one_if (is_open here)) (count is_close (take front rest)) (count is_open (take front rest))
+          (count_more is_close here (take front rest)) (count_more is_open here (take front rest)) many)
+
+deep_is : (row : List Token) → is_deep row ≡ true → IsDeep row
+unfolding is_deep
+deep_is row e = let found = deep_found row 0 0 e in record { front = found.front; many = by (count is_close (take found.front row)) (count is_open (take found.front row)) found.many } where
+  by : (closes opens : ℕ) → deepest + (0 + closes) < 0 + opens → deepest + closes < opens
+  by closes opens many = omega arith
+
+deep_not : (row : List Token) → is_deep row ≡ false → IsDeep row → ⊥
+unfolding is_deep
+deep_not row e deep = deep_none row 0 0 e none deep.front (by (count is_close (take deep.front row)) (count is_open (take deep.front row)) deep.many) where
+  none : deepest + 0 < 0 → ⊥
+  none many = absurd (omega arith)
+
+  by : (closes opens : ℕ) → deepest + closes < opens → deepest + (0 + closes) < 0 + opens
+  by closes opens many = omega arith
+
+pub deep_decided : (row : List Token) (deep : Bool) → deep ≡ is_deep row → IsTrue deep ↔ IsDeep row
+deep_decided row true e = ((λ holds. deep_is row (sym e)), (λ deep. refl))
+deep_decided row false e = ((λ holds. absurd (cc holds)), (λ deep. absurd (deep_not row (sym e) deep)))
+
+pub decided_deep : (row : List Token) (deep : Bool) → IsTrue deep ↔ IsDeep row → deep ≡ true → IsDeep row
+decided_deep row true both e = both.0 refl
+decided_deep row false both e = absurd (cc e)
+
+pub decided_shallow : (row : List Token) (deep : Bool) → IsTrue deep ↔ IsDeep row → deep ≡ false → IsDeep row → ⊥
+decided_shallow row true both e = absurd (cc e)
+decided_shallow row false both e = λ deep. absurd (cc (both.1 deep))

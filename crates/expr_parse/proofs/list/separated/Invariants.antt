@@ -1,0 +1,8 @@
+use Rattle.std.proofs.Common.{◌≡◌, ◌-◌}
+use Rattle.expr_parse.specs.Input.{Reader}
+use Rattle.expr_parse.specs.Callable.{Reads}
+use Rattle.expr_parse.specs.Combinators as spec
+use Rattle.expr_parse.proofs.list.separated.Given as goal
+
+abbrev pub invariant-turns : goal.invariant-turns
+invariant-turns g l = (reader : Reader g.row.T.Denot) → Reads reader (goal.F-post g l.read) → spec.separated reader l.fn.cursor ≡ spec.separated_from reader (l._turn-end - l._turn) l.found l.cursor

@@ -1,0 +1,7 @@
+//! Expressions that are read, and such that are not.
+
+mod print;
+mod reading;
+mod splits;
+mod trees;
+mod words;
