@@ -1,0 +1,29 @@
+use Rattle.std.proofs.Common.{rules, arith}
+use Rattle.std.proofs.lemmas.Grind.{common_steps}
+use Rattle.expr_parse.specs.Combinators.{separated_from}
+use Rattle.spec_parse.proofs.Turns.{one_more, no_more}
+use Rattle.spec_parse.proofs.list.separated.Goals as goal
+
+pub returns-in_err-read : goal.returns-in_err-read
+unfolding separated_from
+returns-in_err-read g c =
+    let e = one_more (λ n. separated_from g.T.Item.reader n c.turns.found c.turns.cursor) _ c.turns._turn c.turns-test.true c.turns.invariant in
+    first_of (search rules, grind (arith, common_steps))
+
+pub returns-then-not-eat : goal.returns-then-not-eat
+unfolding separated_from
+returns-then-not-eat g c =
+    let e = one_more (λ n. separated_from g.T.Item.reader n c.turns.found c.turns.cursor) _ c.turns._turn c.turns-test.true c.turns.invariant in
+    first_of (search rules, grind (arith, common_steps))
+
+pub turns-preserved : goal.turns-preserved
+unfolding separated_from
+turns-preserved g c =
+    let e = one_more (λ n. separated_from g.T.Item.reader n c.turns.found c.turns.cursor) _ c.turns._turn c.turns-test.true c.turns.invariant in
+    first_of (search rules, grind (arith, common_steps))
+
+pub returns : goal.returns
+unfolding separated_from
+returns g c =
+    let e = no_more (λ n. separated_from g.T.Item.reader n c.turns.found c.turns.cursor) _ c.turns._turn c.turns-test.false c.turns.invariant in
+    first_of (search rules, grind (arith, common_steps))

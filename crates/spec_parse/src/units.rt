@@ -1,0 +1,135 @@
+//! Statements that begin program units, procedures and interface blocks, and CONTAINS (Fortran 90, 11, 12.3.2.1, 12.5.2).
+
+ghost use Rattle.std.specs.Prelude.{◌≡◌};
+ghost use Rattle.expr_parse.specs.Input.{Gives};
+ghost use Rattle.spec_parse.specs.Units as spec;
+
+use crate::names::{read_dummies, read_names};
+use expr_parse::{Cursor, Misfit};
+use ftn_tree::{Form, Lexeme, Token, TypeSpec};
+use std::alloc::Global;
+
+/// `PROGRAM name` (11.1).
+#[tactic(auto, unfolding(crate::specs::Units::program))]
+pub fn read_program(cursor: &mut Cursor<'_>) -> Result<Form, Misfit>
+    ensures { Gives (spec.program cursor.old) result cursor.new }
+{
+    cursor.expect_word(b"program")?;
+    let name = cursor.name()?;
+    Ok(Form::Program { name })
+}
+
+#[tactic(auto, unfolding(crate::specs::Units::module_unit))]
+fn read_module_unit(cursor: &mut Cursor<'_>) -> Result<Form, Misfit>
+    ensures { Gives (spec.module_unit cursor.old) result cursor.new }
+{
+    cursor.expect_word(b"module")?;
+    let name = cursor.name()?;
+    Ok(Form::Module { name })
+}
+
+#[tactic(auto, unfolding(crate::specs::Units::module_procedure))]
+fn read_module_procedure(alloc: Global, cursor: &mut Cursor<'_>) -> Result<Form, Misfit>
+    ensures { Gives (spec.module_procedure cursor.old) result cursor.new }
+{
+    cursor.expect_word(b"module")?;
+    cursor.expect_word(b"procedure")?;
+    let names = read_names(alloc, cursor)?;
+    Ok(Form::ModuleProcedure { names })
+}
+
+#[tactic(auto, unfolding(crate::specs::Units::names_procedures))]
+fn names_procedures(tokens: &[Token]) -> bool
+    ensures { result ≡ spec.names_procedures tokens.now }
+{
+    match tokens {
+        [_, next, third, ..] => next.is_word(b"procedure") && third.lexeme().is(Lexeme::Word),
+        _ => false,
+    }
+}
+
+/// `MODULE name` or `MODULE PROCEDURE name, ..` (11.3, 12.3.2.1). A module may have the name `procedure`.
+#[tactic(auto, unfolding(crate::specs::Units::module_row))]
+pub fn read_module(alloc: Global, cursor: &mut Cursor<'_>) -> Result<Form, Misfit>
+    ensures { Gives (spec.module_row cursor.old) result cursor.new }
+{
+    if names_procedures(cursor.rest()) {
+        read_module_procedure(alloc, cursor)
+    } else {
+        read_module_unit(cursor)
+    }
+}
+
+/// `SUBROUTINE name [( [dummy, ..] )]` (12.5.2.3).
+#[tactic(auto, unfolding(crate::specs::Units::subroutine, crate::specs::Units::subroutine_parts))]
+pub fn read_subroutine(alloc: Global, cursor: &mut Cursor<'_>) -> Result<Form, Misfit>
+    ensures { Gives (spec.subroutine cursor.old) result cursor.new }
+{
+    cursor.expect_word(b"subroutine")?;
+    let name = cursor.name()?;
+    let dummies = if cursor.sees(Lexeme::Open) {
+        Some(read_dummies(alloc, cursor)?)
+    } else {
+        None
+    };
+    Ok(Form::Subroutine { name, dummies })
+}
+
+#[tactic(auto, unfolding(crate::specs::Units::result_name))]
+fn read_result_name(cursor: &mut Cursor<'_>) -> Result<u32, Misfit>
+    ensures { Gives (spec.result_name cursor.old) result cursor.new }
+{
+    cursor.expect_word(b"result")?;
+    cursor.expect(Lexeme::Open)?;
+    let name = cursor.name()?;
+    cursor.expect(Lexeme::Close)?;
+    Ok(name)
+}
+
+/// `FUNCTION name ( [dummy, ..] ) [RESULT ( name )]`, after the type if one is written (12.5.2.2).
+#[tactic(auto, unfolding(crate::specs::Units::function, crate::specs::Units::function_parts))]
+pub fn read_function(
+    alloc: Global,
+    cursor: &mut Cursor<'_>,
+    ty: Option<TypeSpec>,
+) -> Result<Form, Misfit>
+    ensures { Gives (spec.function ty cursor.old) result cursor.new }
+{
+    cursor.expect_word(b"function")?;
+    let name = cursor.name()?;
+    let dummies = read_dummies(alloc, cursor)?;
+    let result = if cursor.sees(Lexeme::Word) {
+        Some(read_result_name(cursor)?)
+    } else {
+        None
+    };
+    Ok(Form::Function {
+        ty,
+        name,
+        dummies,
+        result,
+    })
+}
+
+/// `CONTAINS` (12.5.2.6).
+#[tactic(auto, unfolding(crate::specs::Units::contains))]
+pub fn read_contains(cursor: &mut Cursor<'_>) -> Result<Form, Misfit>
+    ensures { Gives (spec.contains cursor.old) result cursor.new }
+{
+    cursor.expect_word(b"contains")?;
+    Ok(Form::Contains)
+}
+
+/// `INTERFACE [name]` (12.3.2.1).
+#[tactic(auto, unfolding(crate::specs::Units::interface))]
+pub fn read_interface(cursor: &mut Cursor<'_>) -> Result<Form, Misfit>
+    ensures { Gives (spec.interface cursor.old) result cursor.new }
+{
+    cursor.expect_word(b"interface")?;
+    let name = if cursor.sees(Lexeme::Word) {
+        Some(cursor.name()?)
+    } else {
+        None
+    };
+    Ok(Form::Interface { name })
+}
