@@ -1,0 +1,11 @@
+pub mod Wholes
+pub mod Words
+pub mod ListPieces
+pub mod ActionLaws
+pub mod InnerLaws
+pub mod IfLaws
+pub mod CaseLaws
+pub mod LoopLaws
+pub mod ExecutableLaws
+pub mod Judged
+pub mod Openings

@@ -1,0 +1,4 @@
+pub mod Lists
+pub mod Actions
+pub mod Constructs
+pub mod Executables
