@@ -1,0 +1,17 @@
+pub mod Paths
+pub mod Orders
+pub mod Levels
+pub mod Steps
+pub mod Complete
+pub mod NoArms
+pub mod Built
+pub mod Rows
+pub mod Reached
+pub mod Closed
+pub mod Unended
+pub mod Answers
+pub mod Exact
+pub mod NextStatement
+pub mod Endings
+pub mod Apart
+pub mod Misreads

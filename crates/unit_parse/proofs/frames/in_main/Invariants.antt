@@ -1,0 +1,11 @@
+use Rattle.std.proofs.Common.{◌≡◌, length, reverse}
+use Rattle.ftn_tree.specs.Regions as regions
+use Rattle.unit_parse.specs.Taking as spec
+use Rattle.unit_parse.proofs.frames.in_main.Given as goal
+
+-- what is left of the frames decides as all of them do
+abbrev pub invariant-loop-frame : goal.invariant-loop-frame
+invariant-loop-frame l = regions.in_main (spec.path_of (reverse l.fn.frames)) ≡ regions.in_main (spec.path_of (reverse l.rest))
+
+abbrev pub decreases-loop-frame : goal.decreases-loop-frame
+decreases-loop-frame l = length l.rest

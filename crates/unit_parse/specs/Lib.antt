@@ -1,0 +1,7 @@
+pub mod Answers
+pub mod Decided
+pub mod Following
+pub mod Levels
+pub mod Taking
+pub mod Parsing
+pub mod Progress
