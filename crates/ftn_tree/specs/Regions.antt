@@ -68,8 +68,8 @@ abbrev pub in_loop : (ℕ → ℕ → Bool) → Option ℕ → List Title → Bo
 in_loop same name [] = false
 in_loop same name (what ∷ path) = same_word what.word word.Do && fits_name same name what.name || is_construct what.word && in_loop same name path
 
--- an END alone ends a main program, a module, an external procedure and an interface body. This project's choice: the standard lets it
--- end a module too (11.3), and wants the word at a module or internal procedure (12.5.2)
+-- an END alone ends a main program, a module, an external procedure and an interface body (11.1, 11.3, 12.5.2); a module or internal
+-- procedure wants its word, and so do interface blocks and constructs
 abbrev pub ends_plainly : Region → Bool
 ends_plainly region.MainProgram = true
 ends_plainly region.Module = true
@@ -85,7 +85,8 @@ ends same within what _ = false
 
 -- ---- the order of statements
 
--- the statements of a scoping unit (2.3.1); executable statements and procedures where it may hold them
+-- the statements of a scoping unit (2.3.1), with executable statements and procedures where it may hold them. This project's choice:
+-- PARAMETER stands after all IMPLICIT statements
 abbrev pub specification_part : List Section → List Section
 specification_part after = section.Any content.Use ∷ section.Any content.Implicit ∷ section.Any content.Specification ∷ after
 
@@ -95,6 +96,8 @@ procedure_part = section.Once content.Contains ∷ section.Any content.Procedure
 abbrev pub scope_sections : List Section
 scope_sections = specification_part (section.Any content.Executable ∷ procedure_part)
 
+-- This project's choice: MODULE PROCEDURE statements stand among the bodies of a generic interface block, and an interface body holds
+-- IMPLICIT, type declarations, DIMENSION and INTENT alone
 abbrev pub sections_in : Region → List Section
 sections_in region.File = section.Any content.Unit ∷ []
 sections_in region.MainProgram = scope_sections
@@ -109,7 +112,7 @@ sections_in region.If = section.Any content.ElseIf ∷ section.Once content.Else
 sections_in region.Do = section.Any content.Executable ∷ []
 sections_in region.Select = section.First content.AnyCase ∷ section.Any content.Case ∷ section.Once content.Default ∷ section.Any content.Case ∷ []
 
--- the statements are those sections in turn
+-- the statements are those sections in turn; to any number of one kind belong as many as follow one another
 abbrev pub in_order : List Section → List Mark → Bool
 in_order [] [] = true
 in_order [] (m ∷ marks) = false
