@@ -6,7 +6,7 @@ use Rattle.std.specs.List.{slice_split}
 use Rattle.free_scan.specs.Reading.{◌>>=◌, is_comma, read_all, read_name, read_names, read_statement, read_sum, read_sums, read_terms}
 use Rattle.free_scan.specs.Spelling.{Lexeme, lexeme_of}
 use Rattle.free_scan.specs.declared.first_form.program.Sum.{Sum}
-use Rattle.free_scan.specs.declared.first_form.token.Token.{Token}
+use Rattle.free_scan.specs.declared.first_form.token.PlacedPiece.{PlacedPiece}
 use Rattle.free_scan.specs.declared.first_form.program.Term.{Term}
 
 -- what was read before, and what the rest gives
@@ -59,13 +59,13 @@ module _ {A B C : Type 0} (read : B → Option C) (view : A → B) where
   read_begin front items rows none e = ap (read_all read) (sym e) ∙ onto_nothing (read_all read (map view items)) ∙ ap (λ xs. onto xs (read_all read (map view items))) (sym none)
 
 -- a row with an operator at its end
-pub odd_row : (all : Option (List Term)) (front : List Term) (row : List Token) → length row < 2 → 1 ≤ length row
+pub odd_row : (all : Option (List Term)) (front : List Term) (row : List PlacedPiece) → length row < 2 → 1 ≤ length row
     → all ≡ onto front (read_terms (map lexeme_of row)) → None ≡ all
 odd_row all front [] lt le e = absurd (omega (arith, le))
 odd_row all front (token ∷ []) lt le e = sym e
 odd_row all front (token ∷ next ∷ row) lt le e = absurd (omega (arith, lt))
 
-pub short_row : (row : List Token) → length row < 2 → None ≡ read_statement (map lexeme_of row)
+pub short_row : (row : List PlacedPiece) → length row < 2 → None ≡ read_statement (map lexeme_of row)
 unfolding read_statement
 short_row [] lt = refl
 short_row (token ∷ []) lt = refl

@@ -10,10 +10,10 @@ use Rattle.ftn_base.specs.Letters.{fold_byte, folded}
 use Rattle.std.specs.List.{onto_first}
 use Rattle.free_scan.specs.Pieces.{Piece, pieces_of}
 use Rattle.free_scan.specs.Spelling.{Lexeme, word, whole, mark, lexeme_of, lexeme_rows, is_some_row, token_lines, rows_of}
-use Rattle.free_scan.specs.Tokens.{is_line_end, is_token, keep_if, line_after, token, tokens_from, tokens_of}
+use Rattle.free_scan.specs.Tokens.{is_line_end, is_kept, keep_if, line_after, placed_piece, placed_pieces_from, placed_pieces_of}
 use Rattle.free_scan.specs.declared.first_form.token.PieceKind.{PieceKind}
 use Rattle.free_scan.specs.declared.first_form.token.PieceKind.TheVariants.{Blank, Comment, LineEnd, Word, Whole, Mark}
-use Rattle.free_scan.specs.declared.first_form.token.Token.{Token}
+use Rattle.free_scan.specs.declared.first_form.token.PlacedPiece.{PlacedPiece}
 
 abbrev pub IsLower : Lexeme → Type 0
 IsLower (word name) = bytes_eq (folded name) name ≡ true
@@ -27,10 +27,10 @@ folded_twice : (text : List ℕ) → folded (folded text) ≡ folded text
 folded_twice [] = refl
 folded_twice (b ∷ text) = ap (λ x. x ∷ folded (folded text)) (fold_twice b) ∙ ap (λ xs. fold_byte b ∷ xs) (folded_twice text)
 
-abbrev TokenIsLower : Token → Type 0
+abbrev TokenIsLower : PlacedPiece → Type 0
 TokenIsLower made = IsLower (lexeme_of made)
 
-token_lower : (at line : ℕ) (kind : PieceKind) (text : List ℕ) (size : ℕ) → TokenIsLower (token at line kind text size)
+token_lower : (at line : ℕ) (kind : PieceKind) (text : List ℕ) (size : ℕ) → TokenIsLower (placed_piece at line kind text size)
 token_lower at line Word text size = (bytes_eq-Decides (folded (folded (take size text))) (folded (take size text))).1 (folded_twice (take size text))
 token_lower at line Whole text size = tt
 token_lower at line Blank text size = tt
@@ -42,10 +42,10 @@ keep_all : {A : Type 0} (P : A → Type 0) (b : Bool) (x : A) (xs : List A) → 
 keep_all P true x xs p ps = (p, ps)
 keep_all P false x xs p ps = ps
 
-tokens_lower : (at line : ℕ) (text : List ℕ) (pieces : List Piece) → AllByRecursion TokenIsLower (tokens_from at line text pieces)
+tokens_lower : (at line : ℕ) (text : List ℕ) (pieces : List Piece) → AllByRecursion TokenIsLower (placed_pieces_from at line text pieces)
 tokens_lower at line text [] = tt
 tokens_lower at line text (piece ∷ pieces) =
-    keep_all TokenIsLower (is_token piece.0) (token at line piece.0 text piece.1) _ (token_lower at line piece.0 text piece.1)
+    keep_all TokenIsLower (is_kept piece.0) (placed_piece at line piece.0 text piece.1) _ (token_lower at line piece.0 text piece.1)
     (tokens_lower (at + piece.1) (line_after line piece.0) (drop piece.1 text) pieces)
 
 module _ {A : Type 0} (P : A → Type 0) where
@@ -64,30 +64,30 @@ module _ {A : Type 0} (P : A → Type 0) where
   filter_all [] ps = tt
   filter_all (row ∷ rows) ps = pick_all (is_some_row row) row (filter is_some_row rows) ps.0 (filter_all rows ps.1)
 
-line_all : (b : Bool) (x : Token) (rows : List (List Token)) → TokenIsLower x → Each TokenIsLower rows → Each TokenIsLower (cond b ([] ∷ rows) (onto_first x rows))
+line_all : (b : Bool) (x : PlacedPiece) (rows : List (List PlacedPiece)) → TokenIsLower x → Each TokenIsLower rows → Each TokenIsLower (cond b ([] ∷ rows) (onto_first x rows))
 line_all true x rows p ps = (tt, ps)
 line_all false x rows p ps = onto_all TokenIsLower x rows p ps
 
-lines_lower : (tokens : List Token) → AllByRecursion TokenIsLower tokens → Each TokenIsLower (token_lines tokens)
+lines_lower : (tokens : List PlacedPiece) → AllByRecursion TokenIsLower tokens → Each TokenIsLower (token_lines tokens)
 lines_lower [] ps = tt
 lines_lower (x ∷ tokens) ps = line_all (is_line_end x.kind) x (token_lines tokens) ps.0 (lines_lower tokens ps.1)
 
-row_lower : (row : List Token) → AllByRecursion TokenIsLower row → AllByRecursion IsLower (map lexeme_of row)
+row_lower : (row : List PlacedPiece) → AllByRecursion TokenIsLower row → AllByRecursion IsLower (map lexeme_of row)
 row_lower [] ps = tt
 row_lower (x ∷ row) ps = (ps.0, row_lower row ps.1)
 
-mapped_lower : (rows : List (List Token)) → Each TokenIsLower rows → Each IsLower (map (map lexeme_of) rows)
+mapped_lower : (rows : List (List PlacedPiece)) → Each TokenIsLower rows → Each IsLower (map (map lexeme_of) rows)
 mapped_lower [] ps = tt
 mapped_lower (row ∷ rows) ps = (row_lower row ps.0, mapped_lower rows ps.1)
 
-rows_lower : (tokens : List Token) → AllByRecursion TokenIsLower tokens → Each IsLower (lexeme_rows tokens)
+rows_lower : (tokens : List PlacedPiece) → AllByRecursion TokenIsLower tokens → Each IsLower (lexeme_rows tokens)
 rows_lower tokens ps = mapped_lower (rows_of tokens) (filter_all TokenIsLower (token_lines tokens) (lines_lower tokens ps))
 
-text_lower : (text : List ℕ) (pieces : Option (List Piece)) (rows : List (List Lexeme)) → option_map lexeme_rows (option_map (tokens_from 0 1 text) pieces) ≡ Some rows → Each IsLower rows
+text_lower : (text : List ℕ) (pieces : Option (List Piece)) (rows : List (List Lexeme)) → option_map lexeme_rows (option_map (placed_pieces_from 0 1 text) pieces) ≡ Some rows → Each IsLower rows
 text_lower text None rows e = absurd cc
 text_lower text (Some pieces) rows e =
-    let is : lexeme_rows (tokens_from 0 1 text pieces) ≡ rows = cc in
-    subst (λ found. Each IsLower found) is (rows_lower (tokens_from 0 1 text pieces) (tokens_lower 0 1 text pieces))
+    let is : lexeme_rows (placed_pieces_from 0 1 text pieces) ≡ rows = cc in
+    subst (λ found. Each IsLower found) is (rows_lower (placed_pieces_from 0 1 text pieces) (tokens_lower 0 1 text pieces))
 
-pub text_is_lower : (text : List ℕ) (rows : List (List Lexeme)) → option_map lexeme_rows (tokens_of text) ≡ Some rows → AllByRecursion (λ row. AllByRecursion IsLower row) rows
+pub text_is_lower : (text : List ℕ) (rows : List (List Lexeme)) → option_map lexeme_rows (placed_pieces_of text) ≡ Some rows → AllByRecursion (λ row. AllByRecursion IsLower row) rows
 text_is_lower text rows e = text_lower text (pieces_of text) rows e

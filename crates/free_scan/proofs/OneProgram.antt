@@ -6,9 +6,9 @@ use Rattle.free_scan.specs.FirstForm.{IsProgramText, Lacks}
 use Rattle.free_scan.specs.Lines.{is_plain}
 use Rattle.free_scan.specs.Reading.{◌>>=◌, read_clean, read_program}
 use Rattle.free_scan.specs.Spelling.{lexeme_of, lexeme_rows, rows_of, spell_program}
-use Rattle.free_scan.specs.Tokens.{tokens_of}
+use Rattle.free_scan.specs.Tokens.{placed_pieces_of}
 use Rattle.free_scan.specs.declared.first_form.program.Program.{Program}
-use Rattle.free_scan.specs.declared.first_form.token.Token.{Token}
+use Rattle.free_scan.specs.declared.first_form.token.PlacedPiece.{PlacedPiece}
 use Rattle.free_scan.proofs.CleanRows.{is_filled, rows_good}
 use Rattle.free_scan.proofs.LowerRows.{text_is_lower}
 use Rattle.free_scan.proofs.ReadBack.{program_back}
@@ -31,14 +31,14 @@ one_program text first second p q =
 pub lacks_not_plain : (text : List ℕ) → is_plain text ≡ false → Lacks text
 lacks_not_plain text h program p = let g : is_plain text ≡ true = p.plain in absurd cc
 
-pub lacks_tokens : (text : List ℕ) → tokens_of text ≡ None → Lacks text
+pub lacks_tokens : (text : List ℕ) → placed_pieces_of text ≡ None → Lacks text
 lacks_tokens text h program p =
-    let g : option_map lexeme_rows (tokens_of text) ≡ Some (spell_program program) = p.spelled in
-    let n : option_map lexeme_rows (tokens_of text) ≡ None = ap (option_map lexeme_rows) h in
+    let g : option_map lexeme_rows (placed_pieces_of text) ≡ Some (spell_program program) = p.spelled in
+    let n : option_map lexeme_rows (placed_pieces_of text) ≡ None = ap (option_map lexeme_rows) h in
     absurd cc
 
 -- the rows of a text that spells the program
-rows_spelled : (text : List ℕ) (tokens : List Token) (program : Program) → tokens_of text ≡ Some tokens → IsProgramText text program → lexeme_rows tokens ≡ spell_program program
+rows_spelled : (text : List ℕ) (tokens : List PlacedPiece) (program : Program) → placed_pieces_of text ≡ Some tokens → IsProgramText text program → lexeme_rows tokens ≡ spell_program program
 rows_spelled text tokens program e p = one_some _ _ (sym (ap (option_map lexeme_rows) e) ∙ p.spelled)
 
 clean_back : (text : List ℕ) (program : Program) → IsProgramText text program → read_clean (spell_program program) ≡ Some program
@@ -47,7 +47,7 @@ clean_back text program p =
     ap (λ o. o >>= λ q. cond (is_clean q) (Some q) None) (text_back text program p)
     ∙ ap (λ b. cond b (Some program) None) p.clean
 
-pub lacks_program : (text : List ℕ) (tokens : List Token) → tokens_of text ≡ Some tokens → read_clean (lexeme_rows tokens) ≡ None → Lacks text
+pub lacks_program : (text : List ℕ) (tokens : List PlacedPiece) → placed_pieces_of text ≡ Some tokens → read_clean (lexeme_rows tokens) ≡ None → Lacks text
 lacks_program text tokens e h program p =
     let g : read_clean (lexeme_rows tokens) ≡ Some program = ap read_clean (rows_spelled text tokens program e p) ∙ clean_back text program p in
     absurd cc
@@ -60,7 +60,7 @@ clean_true : (read : Option Program) (program : Program) → (read >>= λ q. con
 clean_true None program e = absurd cc
 clean_true (Some q) program e = picked (is_clean q) q program refl e
 
-pub spells : (text : List ℕ) (tokens : List Token) (program : Program) → is_plain text ≡ true → tokens_of text ≡ Some tokens → read_clean (lexeme_rows tokens) ≡ Some program
+pub spells : (text : List ℕ) (tokens : List PlacedPiece) (program : Program) → is_plain text ≡ true → placed_pieces_of text ≡ Some tokens → read_clean (lexeme_rows tokens) ≡ Some program
     → IsProgramText text program
 unfolding read_clean
 spells text tokens program plain e h =
@@ -72,7 +72,7 @@ spells text tokens program plain e h =
     }
 
 -- what the rows give, clean or not
-pub clean_given : {A : Type 0} (view : A → List Token) (rows : List A) (tokens : List Token) (read : Option Program) → map view rows ≡ rows_of tokens
+pub clean_given : {A : Type 0} (view : A → List PlacedPiece) (rows : List A) (tokens : List PlacedPiece) (read : Option Program) → map view rows ≡ rows_of tokens
     → read_program (map (λ row. map lexeme_of (view row)) rows) ≡ read → read_clean (lexeme_rows tokens) ≡ (read >>= λ q. cond (is_clean q) (Some q) None)
 unfolding read_clean
 clean_given view rows tokens read e h =

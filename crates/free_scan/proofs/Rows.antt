@@ -8,7 +8,7 @@ use Rattle.std.proofs.lemmas.Bool.Decides.{nat_tests}
 use Rattle.free_scan.specs.Reading.{is_comma, fitting}
 use Rattle.free_scan.specs.Spelling.{lexeme_of, number_of, is_some_row, token_lines, rows_of}
 use Rattle.free_scan.specs.Tokens.{is_line_end}
-use Rattle.free_scan.specs.declared.first_form.token.Token.{Token}
+use Rattle.free_scan.specs.declared.first_form.token.PlacedPiece.{PlacedPiece}
 
 pub map_map : {A B C : Type 0} (g : B → C) (f : A → B) (xs : List A) → map g (map f xs) ≡ map (λ x. g (f x)) xs
 map_map g f [] = refl
@@ -30,19 +30,19 @@ split_map p f (x ∷ xs) =
     ∙ ap (λ rows. cond (p (f x)) ([] ∷ rows) (onto_first (f x) rows)) (split_map p f xs)
 
 -- the parts of a row between commas, in lexemes
-pub parts_are : {A : Type 0} (view : A → List Token) (items : List A) (row : List Token)
+pub parts_are : {A : Type 0} (view : A → List PlacedPiece) (items : List A) (row : List PlacedPiece)
     → map view items ≡ slice_split (λ token. is_comma (lexeme_of token)) row
     → map (λ part. map lexeme_of (view part)) items ≡ slice_split is_comma (map lexeme_of row)
 parts_are view items row e = sym (map_map (map lexeme_of) view items) ∙ ap (map (map lexeme_of)) e ∙ split_map is_comma lexeme_of row
 
 -- lines by either way of splitting: the last may be an empty one more
-abbrev Alike : List (List Token) → List (List Token) → Type 0
+abbrev Alike : List (List PlacedPiece) → List (List PlacedPiece) → Type 0
 Alike split told = (split ≡ told) ⊎ (split ≡ told ++ [] ∷ [])
 
-abbrev ends : Token → Bool
+abbrev ends : PlacedPiece → Bool
 ends token = is_line_end token.kind
 
-alike_step : (b : Bool) (x : Token) (told : List (List Token)) (split : List (List Token)) → Alike split told
+alike_step : (b : Bool) (x : PlacedPiece) (told : List (List PlacedPiece)) (split : List (List PlacedPiece)) → Alike split told
     → Alike (cond b ([] ∷ split) (onto_first x split)) (cond b ([] ∷ told) (onto_first x told))
 alike_step true x told split (inl e) = inl (ap (λ rows. [] ∷ rows) e)
 alike_step true x told split (inr e) = inr (ap (λ rows. [] ∷ rows) e)
@@ -51,16 +51,16 @@ alike_step false x [] split (inr e) = inl (ap (onto_first x) e)
 alike_step false x (line ∷ told) split (inl e) = inl (ap (onto_first x) e)
 alike_step false x (line ∷ told) split (inr e) = inr (ap (onto_first x) e)
 
-alike : (tokens : List Token) → Alike (slice_split ends tokens) (token_lines tokens)
+alike : (tokens : List PlacedPiece) → Alike (slice_split ends tokens) (token_lines tokens)
 alike [] = inr refl
 alike (token ∷ tokens) = alike_step (ends token) token (token_lines tokens) (slice_split ends tokens) (alike tokens)
 
-filter_alike : (told split : List (List Token)) → Alike split told → filter is_some_row split ≡ filter is_some_row told
+filter_alike : (told split : List (List PlacedPiece)) → Alike split told → filter is_some_row split ≡ filter is_some_row told
 filter_alike told split (inl e) = ap (filter is_some_row) e
 filter_alike told split (inr e) = ap (filter is_some_row) e ∙ filter-append is_some_row told ([] ∷ []) ∙ append-nil (filter is_some_row told)
 
 -- the parts between ends of lines that are not empty are the rows
-pub rows_are : (tokens : List Token) → filter is_some_row (slice_split (λ token. is_line_end token.kind) tokens) ≡ rows_of tokens
+pub rows_are : (tokens : List PlacedPiece) → filter is_some_row (slice_split (λ token. is_line_end token.kind) tokens) ≡ rows_of tokens
 rows_are tokens = filter_alike (token_lines tokens) (slice_split ends tokens) (alike tokens)
 
 -- the value of a row of digits after a number

@@ -3,7 +3,7 @@ use Rattle.std.specs.Prelude.{ℕ, ◌+◌, ◌*◌, ◌-◌, Bool, true, false,
 use Rattle.std.specs.List.{filter}
 use Rattle.free_scan.specs.declared.first_form.token.PieceKind.TheVariants as kinds
 use Rattle.free_scan.specs.declared.first_form.token.PieceKind.{PieceKind}
-use Rattle.free_scan.specs.declared.first_form.token.Token.{Token}
+use Rattle.free_scan.specs.declared.first_form.token.PlacedPiece.{PlacedPiece}
 use Rattle.free_scan.specs.declared.first_form.program.Operand.{Operand}
 use Rattle.free_scan.specs.declared.first_form.program.Operand.TheVariants as operands
 use Rattle.free_scan.specs.declared.first_form.program.Sign.{Sign}
@@ -34,11 +34,11 @@ lexeme kinds.Blank value = mark value
 lexeme kinds.Comment value = mark value
 lexeme kinds.LineEnd value = mark value
 
-abbrev pub lexeme_of : Token → Lexeme
+abbrev pub lexeme_of : PlacedPiece → Lexeme
 lexeme_of token = lexeme token.kind token.value
 
--- the tokens of each line, without the ends of lines
-abbrev pub token_lines : List Token → List (List Token)
+-- the tokens of each line, between the ends of lines
+abbrev pub token_lines : List PlacedPiece → List (List PlacedPiece)
 token_lines [] = []
 token_lines (token ∷ rest) = if is_line_end token.kind then [] ∷ token_lines rest else onto_first token (token_lines rest)
 
@@ -47,10 +47,10 @@ is_some_row [] = false
 is_some_row (x ∷ xs) = true
 
 -- the lines on which a statement stands
-abbrev pub rows_of : List Token → List (List Token)
+abbrev pub rows_of : List PlacedPiece → List (List PlacedPiece)
 rows_of tokens = filter is_some_row (token_lines tokens)
 
-abbrev pub lexeme_rows : List Token → List (List Lexeme)
+abbrev pub lexeme_rows : List PlacedPiece → List (List Lexeme)
 lexeme_rows tokens = map (map lexeme_of) (rows_of tokens)
 
 -- a list with commas between

@@ -16,4 +16,4 @@ mod token;
 pub use lines::is_plain;
 pub use program::{Operand, Program, Sign, Statement, Sum, Term};
 pub use reading::{FirstForm, one_program_per_text, read_first_form};
-pub use token::{PieceKind, Token, pieces_are_unique, scan};
+pub use token::{PieceKind, PlacedPiece, pieces_are_unique, scan};

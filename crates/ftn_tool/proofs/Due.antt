@@ -6,7 +6,7 @@ use Rattle.ftn_base.specs.declared.memory.NoMemory.{NoMemory}
 use Rattle.free_scan.specs.FirstForm.{IsProgramText, Lacks}
 use Rattle.free_scan.specs.Tokens.{tokens_of}
 use Rattle.free_scan.specs.declared.first_form.program.Program.{Program}
-use Rattle.free_scan.specs.declared.first_form.token.Token.{Token}
+use Rattle.ftn_tree.specs.declared.token.Token.{Token}
 use Rattle.rename_ref.specs.Conditions.{judged}
 use Rattle.rename_ref.specs.declared.judgement.Judgement.{Judgement}
 use Rattle.rename_ref.specs.declared.rename.Rename.{Rename}

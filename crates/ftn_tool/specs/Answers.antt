@@ -5,7 +5,7 @@ use Rattle.ftn_base.specs.declared.status.Status.{Status}
 use Rattle.ftn_base.specs.declared.status.Status.TheVariants as status
 use Rattle.free_scan.specs.FirstForm.{IsProgramText}
 use Rattle.free_scan.specs.declared.first_form.program.Program.{Program}
-use Rattle.free_scan.specs.declared.first_form.token.Token.{Token}
+use Rattle.ftn_tree.specs.declared.token.Token.{Token}
 use Rattle.rename_ref.specs.declared.judgement.Cond.{Cond}
 use Rattle.rename_ref.specs.declared.judgement.Judgement.TheVariants.{Refuse, Accept}
 use Rattle.rename_ref.specs.declared.rename.Rename.{Rename}

@@ -11,7 +11,7 @@ use Rattle.ftn_base.specs.declared.status.Status.TheVariants as status
 use Rattle.free_scan.specs.FirstForm.{IsProgramText}
 use Rattle.free_scan.specs.Tokens.{tokens_of}
 use Rattle.free_scan.specs.declared.first_form.program.Program.{Program}
-use Rattle.free_scan.specs.declared.first_form.token.Token.{Token}
+use Rattle.ftn_tree.specs.declared.token.Token.{Token}
 use Rattle.rename_ref.specs.Conditions.{judged, name_of}
 use Rattle.rename_ref.specs.declared.judgement.Cond.{Cond}
 use Rattle.rename_ref.specs.declared.judgement.Judgement.{Judgement}

@@ -6,7 +6,7 @@ use Rattle.ftn_base.specs.Keywords.{is_keyword, is_intrinsic}
 use Rattle.ftn_base.specs.Letters.{folded}
 use Rattle.ftn_base.specs.Names.{is_name}
 use Rattle.ftn_base.specs.Places.{offset_of}
-use Rattle.free_scan.specs.declared.first_form.token.Token.{Token}
+use Rattle.ftn_tree.specs.declared.token.Token.{Token}
 use Rattle.rename_ref.specs.declared.rename.Rename.{Rename}
 use Rattle.rename_ref.specs.declared.judgement.Cond.TheVariants.{BadName, Keyword}
 use Rattle.rename_ref.specs.declared.judgement.Judgement.{Judgement}

@@ -12,9 +12,9 @@ use Rattle.free_scan.specs.Lines.{lines, is_plain}
 use Rattle.free_scan.specs.Spelling.{Lexeme, lexeme_rows, spell_program}
 use Rattle.free_scan.specs.Clean.{is_clean, is_free_name, is_among, variables, are_distinct, statement_names}
 use Rattle.free_scan.specs.FirstForm.{IsProgramText}
-use Rattle.free_scan.specs.Tokens.{tokens_of}
+use Rattle.free_scan.specs.Tokens.{placed_pieces_of, tokens_of}
 use Rattle.free_scan.specs.declared.first_form.program.Program.{Program}
-use Rattle.free_scan.specs.declared.first_form.token.Token.{Token}
+use Rattle.ftn_tree.specs.declared.token.Token.{Token}
 use Rattle.rename_ref.specs.declared.rename.Rename.{Rename}
 use Rattle.rename_ref.specs.declared.edits.Edit.{Edit}
 use Rattle.rename_ref.specs.declared.judgement.Judgement.TheVariants.{Accept}
@@ -27,7 +27,7 @@ use Rattle.rename_ref.specs.Names.{name_tokens, denoting}
 use Rattle.rename_ref.specs.Renaming.{renamed, map_program}
 use Rattle.rename_ref.proofs.Accepted.{accepted}
 use Rattle.rename_ref.proofs.Alls.{all_weaken, all_map, find_none, map_agree}
-use Rattle.rename_ref.proofs.Chunks.{Chunk, joined, AreFronts, tokens_in, text_cut, tokens_of_joined, some_is, is_old, tokens_where, name_tokens_in, denoting_in}
+use Rattle.rename_ref.proofs.Chunks.{Chunk, joined, AreFronts, placed_in, tokens_in, text_cut, placed_of_joined, tokens_of_joined, some_is, is_old, tokens_where, name_tokens_in, denoting_in}
 use Rattle.rename_ref.proofs.CleanRenamed.{swapped, swapped_same, swapped_renames, is_other, IsClean, clean_parts, clean_from, clean_map, variables_map, among_passes, free_swapped}
 use Rattle.rename_ref.proofs.FreshNames.{names_other}
 use Rattle.rename_ref.proofs.Fronts.{letter_name_byte}
@@ -89,7 +89,7 @@ text_is old new cs free = ap (λ (ts : List Token). applied_from 0 (joined cs) (
 pub record IsRenaming (old new : List ℕ) (cs : List Chunk) (p : Program) : Type 0 where
   pub fronts : AreFronts cs
   pub plain : is_plain (joined cs) ≡ true
-  pub spelled : lexeme_rows (tokens_in 0 1 cs) ≡ spell_program p
+  pub spelled : lexeme_rows (placed_in 0 1 cs) ≡ spell_program p
   pub clean : IsClean p
   pub is_free : is_keyword old ≡ false
   pub name : is_name 31 new ≡ true
@@ -120,7 +120,7 @@ module _ (old new : List ℕ) (cs : List Chunk) (p : Program) (a : IsRenaming ol
 
   -- no name of the program is the new one
   others : list_all (is_other (folded new)) (p.name ∷ variables p) ≡ true
-  others = names_other (folded new) (tokens_in 0 1 cs) p a.not_captured a.spelled a.clean.all_free
+  others = names_other (folded new) (placed_in 0 1 cs) p a.not_captured a.spelled a.clean.all_free
 
   -- swapping the two names is the renaming, in this program
   pub swap_is : map_program (swapped old (folded new)) p ≡ map_program r p
@@ -135,16 +135,16 @@ module _ (old new : List ℕ) (cs : List Chunk) (p : Program) (a : IsRenaming ol
       let c = clean_map (swapped old (folded new)) (swapped_same old (folded new)) p a.clean (free_swapped old (folded new) free_new (p.name ∷ variables p) a.clean.all_free others) in
       ap is_clean (sym swap_is) ∙ clean_from (map_program (swapped old (folded new)) p) c
 
-  -- the tokens of the new text are those of the new pieces
-  new_tokens : tokens_of (joined new_cs) ≡ Some (tokens_in 0 1 new_cs)
-  new_tokens = tokens_of_joined new_cs new_fronts
+  -- the tokens and ends of lines of the new text are those of the new pieces
+  new_placed : placed_pieces_of (joined new_cs) ≡ Some (placed_in 0 1 new_cs)
+  new_placed = placed_of_joined new_cs new_fronts
 
   -- The new text spells the renamed program.
   pub new_spells : IsProgramText (joined new_cs) (map_program r p)
   new_spells = record {
     plain = plain_renamed old new 31 a.name cs (are_fine cs a.fronts) (are_fine new_cs new_fronts) a.plain a.short;
     spelled =
-        ap (option_map lexeme_rows) new_tokens
+        ap (option_map lexeme_rows) new_placed
         ∙ ap some_rows (rows_renamed old new 0 0 1 1 cs ∙ ap (map (map (map_lexeme r))) a.spelled
         ∙ sym (spelled_renamed r (keyword_stays old (folded new) (codes "program") a.is_free refl) (keyword_stays old (folded new) (codes "integer") a.is_free refl)
         (keyword_stays old (folded new) (codes "print") a.is_free refl) (keyword_stays old (folded new) (codes "end") a.is_free refl) p));
@@ -355,7 +355,7 @@ keeps_cut unique runs order file cs program new_text fs spells e =
     let a : IsRenaming h.token.value order.new cs program = record {
       fronts = fs;
       plain = spells.plain;
-      spelled = some_is (lexeme_rows (tokens_in 0 1 cs)) (spell_program program) (ap (option_map lexeme_rows) (sym (tokens_of_joined cs fs)) ∙ spells.spelled);
+      spelled = some_is (lexeme_rows (placed_in 0 1 cs)) (spell_program program) (ap (option_map lexeme_rows) (sym (placed_of_joined cs fs)) ∙ spells.spelled);
       clean = clean_parts program spells.clean;
       is_free = h.is_free;
       name = h.name;

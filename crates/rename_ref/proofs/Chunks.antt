@@ -5,10 +5,12 @@ use Rattle.std.proofs.lemmas.Slice.Eq.{bytes_eq-Decides}
 use Rattle.ftn_base.specs.Letters.{folded}
 use Rattle.ftn_base.specs.Keywords.{is_keyword}
 use Rattle.free_scan.specs.Pieces.{Piece, front, pieces_within, pieces_of}
-use Rattle.free_scan.specs.Tokens.{value_of, is_token, line_after, keep_if, tokens_from, tokens_of}
+use Rattle.free_scan.specs.Tokens.{value_of, is_kept, line_after, keep_if, placed_pieces_from, placed_pieces_of, as_token, tokens_among, tokens_of}
 use Rattle.free_scan.specs.declared.first_form.token.PieceKind.{PieceKind}
 use Rattle.free_scan.specs.declared.first_form.token.PieceKind.TheVariants.{Blank, Comment, LineEnd, Word, Whole, Mark}
-use Rattle.free_scan.specs.declared.first_form.token.Token.{Token}
+use Rattle.free_scan.specs.declared.first_form.token.PlacedPiece.{PlacedPiece}
+use Rattle.ftn_tree.specs.declared.token.Token.{Token}
+use Rattle.ftn_tree.specs.declared.token.TokenKind.TheVariants as kinds
 use Rattle.rename_ref.specs.Names.{is_word, is_name_token, name_tokens, denoting}
 use Rattle.rename_ref.proofs.Fronts.{front_some}
 
@@ -85,90 +87,117 @@ pieces_back ((k, b ∷ w) ∷ cs) fs (suc n) le =
 
 -- ---- its tokens
 
--- the token that the piece is at that offset and on that line
-abbrev pub token_at : ℕ → ℕ → Chunk → Token
-token_at at line c = record { kind = c.0; range = record { start = at; end = at + length c.1 }; line = line; value = value_of c.0 c.1 }
+-- the piece with its place, at that offset and on that line
+abbrev pub placed_at : ℕ → ℕ → Chunk → PlacedPiece
+placed_at at line c = record { kind = c.0; range = record { start = at; end = at + length c.1 }; line = line; value = value_of c.0 c.1 }
 
--- the tokens of a text that begins at that offset and on that line
+-- the tokens and ends of lines of a text that begins at that offset and on that line
+abbrev pub placed_in : ℕ → ℕ → List Chunk → List PlacedPiece
+placed_in at line [] = []
+placed_in at line (c ∷ cs) = keep_if (is_kept c.0) (placed_at at line c) (placed_in (at + length c.1) (line_after line c.0) cs)
+
+-- its tokens
 abbrev pub tokens_in : ℕ → ℕ → List Chunk → List Token
-tokens_in at line [] = []
-tokens_in at line (c ∷ cs) = keep_if (is_token c.0) (token_at at line c) (tokens_in (at + length c.1) (line_after line c.0) cs)
+tokens_in at line cs = tokens_among (placed_in at line cs)
 
--- these are the tokens of the text
-pub tokens_in_is : (at line : ℕ) (cs : List Chunk) → tokens_from at line (joined cs) (map sized cs) ≡ tokens_in at line cs
-tokens_in_is at line [] = refl
-tokens_in_is at line (c ∷ cs) =
-    let r = tokens_in_is (at + length c.1) (line_after line c.0) cs in
+-- these are the tokens and ends of lines of the text
+placed_in_is : (at line : ℕ) (cs : List Chunk) → placed_pieces_from at line (joined cs) (map sized cs) ≡ placed_in at line cs
+placed_in_is at line [] = refl
+placed_in_is at line (c ∷ cs) =
+    let r = placed_in_is (at + length c.1) (line_after line c.0) cs in
     rw (take_at c.1 (joined cs) (length c.1) refl, drop_at c.1 (joined cs) (length c.1) refl, r) refl
 
 -- a text that has tokens is made of pieces that have these
 pub text_cut : (text : List ℕ) (tokens : List Token) → tokens_of text ≡ Some tokens → (cs : List Chunk) × (joined cs ≡ text) × AreFronts cs × (tokens_in 0 1 cs ≡ tokens)
 text_cut text tokens e =
-    let m = map_some (tokens_from 0 1 text) (pieces_of text) tokens e in
+    let q = map_some tokens_among (placed_pieces_of text) tokens e in
+    let m = map_some (placed_pieces_from 0 1 text) (pieces_of text) q.0 q.1 in
     let r = pieces_cut (length text) text m.0 m.1 in
-    let t : tokens_from 0 1 (joined r.0) (map sized r.0) ≡ tokens_in 0 1 r.0 = tokens_in_is 0 1 r.0 in
-    (r.0, r.1, r.2, sym t ∙ ap (λ (u : List ℕ). tokens_from 0 1 u (map sized r.0)) r.1 ∙ ap (tokens_from 0 1 text) r.3 ∙ m.2)
+    let t : placed_pieces_from 0 1 (joined r.0) (map sized r.0) ≡ placed_in 0 1 r.0 = placed_in_is 0 1 r.0 in
+    let p : placed_in 0 1 r.0 ≡ q.0 = sym t ∙ ap (λ (u : List ℕ). placed_pieces_from 0 1 u (map sized r.0)) r.1 ∙ ap (placed_pieces_from 0 1 text) r.3 ∙ m.2 in
+    (r.0, r.1, r.2, ap tokens_among p ∙ q.2)
 
--- the tokens of the text that pieces make
-pub tokens_of_joined : (cs : List Chunk) → AreFronts cs → tokens_of (joined cs) ≡ Some (tokens_in 0 1 cs)
-tokens_of_joined cs fs =
+-- the tokens and ends of lines of the text that pieces make
+pub placed_of_joined : (cs : List Chunk) → AreFronts cs → placed_pieces_of (joined cs) ≡ Some (placed_in 0 1 cs)
+placed_of_joined cs fs =
     let p : pieces_within (length (joined cs)) (joined cs) ≡ Some (map sized cs) = pieces_back cs fs (length (joined cs)) (omega arith) in
-    ap (option_map (tokens_from 0 1 (joined cs))) p ∙ ap (λ (ts : List Token). Some ts) (tokens_in_is 0 1 cs)
+    ap (option_map (placed_pieces_from 0 1 (joined cs))) p ∙ ap (λ (ps : List PlacedPiece). Some ps) (placed_in_is 0 1 cs)
+
+-- and its tokens
+pub tokens_of_joined : (cs : List Chunk) → AreFronts cs → tokens_of (joined cs) ≡ Some (tokens_in 0 1 cs)
+tokens_of_joined cs fs = ap (option_map tokens_among) (placed_of_joined cs fs)
 
 -- ---- its name tokens
 
+-- whether a piece of that kind is a word
+abbrev pub is_word_piece : PieceKind → Bool
+is_word_piece Word = true
+is_word_piece Blank = false
+is_word_piece Comment = false
+is_word_piece LineEnd = false
+is_word_piece Whole = false
+is_word_piece Mark = false
+
 -- whether a piece is a name
 abbrev pub is_name_chunk : Chunk → Bool
-is_name_chunk c = is_word c.0 && not (is_keyword (folded c.1))
+is_name_chunk c = is_word_piece c.0 && not (is_keyword (folded c.1))
 
 -- whether it is that word
 abbrev pub is_old : List ℕ → Chunk → Bool
-is_old old c = is_word c.0 && bytes_eq (folded c.1) old
+is_old old c = is_word_piece c.0 && bytes_eq (folded c.1) old
 
--- the tokens of the pieces that pass
+-- the token that a word is at that offset and on that line
+abbrev pub token_at : ℕ → ℕ → Chunk → Token
+token_at at line c = record { kind = kinds.Word; range = record { start = at; end = at + length c.1 }; line = line; split = false; value = value_of c.0 c.1 }
+
+-- the tokens of the words that pass
 abbrev pub tokens_where : (Chunk → Bool) → ℕ → ℕ → List Chunk → List Token
 tokens_where p at line [] = []
 tokens_where p at line (c ∷ cs) = cond (p c) (token_at at line c ∷ tokens_where p (at + length c.1) (line_after line c.0) cs) (tokens_where p (at + length c.1) (line_after line c.0) cs)
 
--- a filter of tokens by a test that passes words alone
-filter_keep : (p : Token → Bool) (q : Chunk → Bool) (at line : ℕ) (c : Chunk) (ts : List Token) → p (token_at at line c) ≡ q c → (is_token c.0 ≡ false → q c ≡ false)
-    → filter p (keep_if (is_token c.0) (token_at at line c) ts) ≡ cond (q c) (token_at at line c ∷ filter p ts) (filter p ts)
-filter_keep p q at line c ts same none = go (is_token c.0) none
-  where
-    go : (t : Bool) → (t ≡ false → q c ≡ false) → filter p (keep_if t (token_at at line c) ts) ≡ cond (q c) (token_at at line c ∷ filter p ts) (filter p ts)
-    go true h = ap (λ (b : Bool). cond b (token_at at line c ∷ filter p ts) (filter p ts)) same
-    go false h = let e : q c ≡ false = h refl in rw e refl
+-- one more that both tests pass, or neither
+grown : {X : Type 0} (a b : Bool) (x : X) (xs ys : List X) → a ≡ b → xs ≡ ys → cond a (x ∷ xs) xs ≡ cond b (x ∷ ys) ys
+grown true true x xs ys e r = cc
+grown true false x xs ys e r = absurd cc
+grown false true x xs ys e r = absurd cc
+grown false false x xs ys e r = r
 
--- the tokens that pass a test that only words pass are those of the pieces that pass
-filter_tokens : (p : Token → Bool) (q : Chunk → Bool) → ((at line : ℕ) (c : Chunk) → p (token_at at line c) ≡ q c) → ((c : Chunk) → is_token c.0 ≡ false → q c ≡ false)
-    → (at line : ℕ) (cs : List Chunk) → filter p (tokens_in at line cs) ≡ tokens_where q at line cs
-filter_tokens p q same none at line [] = refl
-filter_tokens p q same none at line (c ∷ cs) =
-    let r = filter_tokens p q same none (at + length c.1) (line_after line c.0) cs in
-    filter_keep p q at line c (tokens_in (at + length c.1) (line_after line c.0) cs) (same at line c) (none c)
-    ∙ ap (λ (ts : List Token). cond (q c) (token_at at line c ∷ ts) ts) r
+-- one that doesn't pass
+passed_by : {X : Type 0} (b : Bool) (x : X) (xs ys : List X) → b ≡ false → xs ≡ ys → xs ≡ cond b (x ∷ ys) ys
+passed_by true x xs ys e r = absurd cc
+passed_by false x xs ys e r = r
 
--- a test of words, as one of pieces
-word_test : (p : List ℕ → Bool) (at line : ℕ) (c : Chunk) → (is_word (token_at at line c).kind && p (token_at at line c).value) ≡ (is_word c.0 && p (folded c.1))
-word_test p at line (Blank, w) = refl
-word_test p at line (Comment, w) = refl
-word_test p at line (LineEnd, w) = refl
-word_test p at line (Word, w) = refl
-word_test p at line (Whole, w) = refl
-word_test p at line (Mark, w) = refl
+-- one that passes neither test
+passed_both : {X : Type 0} (a b : Bool) (x y : X) (xs ys : List X) → a ≡ false → b ≡ false → xs ≡ ys → cond a (x ∷ xs) xs ≡ cond b (y ∷ ys) ys
+passed_both true b x y xs ys d e r = absurd cc
+passed_both false b x y xs ys d e r = passed_by b y xs ys e r
 
--- what is no token is no word
-no_word : (p : List ℕ → Bool) (c : Chunk) → is_token c.0 ≡ false → (is_word c.0 && p (folded c.1)) ≡ false
-no_word p (Blank, w) e = refl
-no_word p (Comment, w) e = refl
-no_word p (LineEnd, w) e = absurd cc
-no_word p (Word, w) e = absurd cc
-no_word p (Whole, w) e = absurd cc
-no_word p (Mark, w) e = absurd cc
+module _ (p : Token → Bool) (q : Chunk → Bool) (same : (at line : ℕ) (w : List ℕ) → p (token_at at line (Word, w)) ≡ q (Word, w))
+    (only : (t : Token) → is_word t.kind ≡ false → p t ≡ false) (none : (c : Chunk) → is_word_piece c.0 ≡ false → q c ≡ false) where
+  -- The tokens that pass a test that only words pass are those of the words that pass.
+  filter_tokens : (at line : ℕ) (cs : List Chunk) → filter p (tokens_in at line cs) ≡ tokens_where q at line cs
+  filter_tokens at line [] = refl
+  filter_tokens at line ((Blank, w) ∷ cs) = passed_by (q (Blank, w)) (token_at at line (Blank, w)) _ _ (none (Blank, w) refl) (filter_tokens (at + length w) line cs)
+  filter_tokens at line ((Comment, w) ∷ cs) = passed_by (q (Comment, w)) (token_at at line (Comment, w)) _ _ (none (Comment, w) refl) (filter_tokens (at + length w) line cs)
+  filter_tokens at line ((LineEnd, w) ∷ cs) = passed_by (q (LineEnd, w)) (token_at at line (LineEnd, w)) _ _ (none (LineEnd, w) refl) (filter_tokens (at + length w) (line + 1) cs)
+  filter_tokens at line ((Word, w) ∷ cs) =
+      grown (p (token_at at line (Word, w))) (q (Word, w)) (token_at at line (Word, w)) _ _ (same at line w) (filter_tokens (at + length w) line cs)
+  filter_tokens at line ((Whole, w) ∷ cs) =
+      let t : Token = as_token (placed_at at line (Whole, w)) kinds.Whole in
+      passed_both (p t) (q (Whole, w)) t (token_at at line (Whole, w)) _ _ (only t refl) (none (Whole, w) refl) (filter_tokens (at + length w) line cs)
+  filter_tokens at line ((Mark, w) ∷ cs) =
+      let t : Token = as_token (placed_at at line (Mark, w)) kinds.Mark in
+      passed_both (p t) (q (Mark, w)) t (token_at at line (Mark, w)) _ _ (only t refl) (none (Mark, w) refl) (filter_tokens (at + length w) line cs)
+
+-- what is no word fails a test of words
+no_word : (w b : Bool) → w ≡ false → (w && b) ≡ false
+no_word true b e = absurd cc
+no_word false b e = refl
 
 -- the name tokens of a text are those of its names
 pub name_tokens_in : (at line : ℕ) (cs : List Chunk) → name_tokens (tokens_in at line cs) ≡ tokens_where is_name_chunk at line cs
-name_tokens_in at line cs = filter_tokens is_name_token is_name_chunk (word_test (λ v. not (is_keyword v))) (no_word (λ v. not (is_keyword v))) at line cs
+name_tokens_in at line cs =
+    filter_tokens is_name_token is_name_chunk (λ from on w. refl) (λ t e. no_word (is_word t.kind) (not (is_keyword t.value)) e) (λ c e. no_word (is_word_piece c.0) (not (is_keyword (folded c.1))) e) at line cs
 
 -- two filters are one
 filter_filter : {X : Type 0} (p q : X → Bool) (xs : List X) → filter q (filter p xs) ≡ filter (λ x. p x && q x) xs
@@ -190,9 +219,8 @@ word_and true true false h = refl
 pub denoting_in : (old : List ℕ) → is_keyword old ≡ false → (at line : ℕ) (cs : List Chunk) → denoting old (tokens_in at line cs) ≡ tokens_where (is_old old) at line cs
 denoting_in old free at line cs =
     filter_filter is_name_token (λ token. bytes_eq token.value old) (tokens_in at line cs)
-    ∙ filter_tokens (λ token. is_name_token token && bytes_eq token.value old) (is_old old) same (no_word (λ v. bytes_eq v old)) at line cs
+    ∙ filter_tokens (λ token. is_name_token token && bytes_eq token.value old) (is_old old) same
+    (λ t e. no_word (is_name_token t) (bytes_eq t.value old) (no_word (is_word t.kind) (not (is_keyword t.value)) e)) (λ c e. no_word (is_word_piece c.0) (bytes_eq (folded c.1) old) e) at line cs
   where
-    same : (at line : ℕ) (c : Chunk) → (is_name_token (token_at at line c) && bytes_eq (token_at at line c).value old) ≡ is_old old c
-    same at line c =
-        word_and (is_word c.0) (is_keyword (value_of c.0 c.1)) (bytes_eq (value_of c.0 c.1) old) (λ e. ap is_keyword ((bytes_eq-Decides (value_of c.0 c.1) old).0 e) ∙ free)
-        ∙ word_test (λ v. bytes_eq v old) at line c
+    same : (from on : ℕ) (w : List ℕ) → (is_name_token (token_at from on (Word, w)) && bytes_eq (folded w) old) ≡ is_old old (Word, w)
+    same from on w = word_and true (is_keyword (folded w)) (bytes_eq (folded w) old) (λ e. ap is_keyword ((bytes_eq-Decides (folded w) old).0 e) ∙ free)

@@ -1,18 +1,20 @@
 -- A word that no name token of a text is, is no name of the program.
-use Rattle.std.proofs.Common.{◌≡◌, ℕ, Bool, true, false, not, ◌&&◌, ◌||◌, List, [], ◌∷◌, ◌++◌, map, find, None, refl, sym, ap, ◌∙◌, codes, bytes_eq, if◌then◌else◌}
-use Rattle.std.specs.List.{list_all}
+use Rattle.std.proofs.Common.{◌≡◌, ℕ, Bool, true, false, not, ◌&&◌, ◌||◌, List, [], ◌∷◌, ◌++◌, map, find, option_map, None, refl, sym, ap, ◌∙◌, codes, bytes_eq, if◌then◌else◌}
+use Rattle.std.specs.List.{list_all, cons_option}
 use Rattle.std.proofs.lemmas.Bool.{and_parts, and_from}
 use Rattle.ftn_base.specs.Keywords.{is_keyword, is_intrinsic}
 use Rattle.ftn_base.specs.Names.{is_name}
 use Rattle.std.specs.List.{onto_first}
 use Rattle.free_scan.specs.Spelling.{Lexeme, word, whole, mark, lexeme, lexeme_of, lexeme_rows, token_lines, rows_of, is_some_row, commas, spell_declaration, spell_statement, spell_program}
 use Rattle.free_scan.specs.Clean.{is_free_name, variables}
-use Rattle.free_scan.specs.Tokens.{is_line_end}
+use Rattle.free_scan.specs.Tokens.{is_line_end, token_kind, as_token, tokens_among}
 use Rattle.free_scan.specs.declared.first_form.token.PieceKind.{PieceKind}
 use Rattle.free_scan.specs.declared.first_form.token.PieceKind.TheVariants.{Blank, Comment, LineEnd, Word, Whole, Mark}
-use Rattle.free_scan.specs.declared.first_form.token.Token.{Token}
+use Rattle.free_scan.specs.declared.first_form.token.PlacedPiece.{PlacedPiece}
+use Rattle.ftn_tree.specs.declared.token.Token.{Token}
+use Rattle.ftn_tree.specs.declared.token.TokenKind.TheVariants as kinds
 use Rattle.free_scan.specs.declared.first_form.program.Program.{Program}
-use Rattle.rename_ref.specs.Names.{is_word, is_name_token, name_tokens}
+use Rattle.rename_ref.specs.Names.{is_name_token, name_tokens}
 use Rattle.rename_ref.proofs.Alls.{all_weaken, all_both, all_append_parts, all_map, all_flat, all_filter, all_from_filter, find_none}
 use Rattle.rename_ref.proofs.CleanRenamed.{is_other}
 
@@ -27,8 +29,8 @@ all_onto_first : {X : Type 0} (q : X → Bool) (x : X) (xss : List (List X)) →
 all_onto_first q x [] h a = rw h refl
 all_onto_first q x (xs ∷ xss) h a = let s = and_parts (list_all q xs) (list_all (list_all q) xss) a in rw (h, s.0, s.1) refl
 
--- what holds of each token holds on each line
-all_token_lines : (q : Token → Bool) (tokens : List Token) → list_all q tokens ≡ true → list_all (list_all q) (token_lines tokens) ≡ true
+-- what holds of each piece holds on each line
+all_token_lines : (q : PlacedPiece → Bool) (pieces : List PlacedPiece) → list_all q pieces ≡ true → list_all (list_all q) (token_lines pieces) ≡ true
 all_token_lines q [] a = refl
 all_token_lines q (t ∷ ts) a =
     let s = and_parts (q t) (list_all q ts) a in
@@ -38,31 +40,44 @@ all_token_lines q (t ∷ ts) a =
     go true h r = r
     go false h r = all_onto_first q t (token_lines ts) h r
 
--- the test of a name token, as a test of what it says
-token_says : (new : List ℕ) (t : Token) → (not (is_name_token t) || not (bytes_eq t.value new)) ≡ true → says_other new (lexeme_of t) ≡ true
-token_says new t h = go t.kind h
+-- no name token, or one of another value
+abbrev no_such_name : List ℕ → Token → Bool
+no_such_name new t = not (is_name_token t) || not (bytes_eq t.value new)
+
+-- what the piece says is another word, or a word of statements, or none
+abbrev piece_says_other : List ℕ → PlacedPiece → Bool
+piece_says_other new piece = says_other new (lexeme_of piece)
+
+-- a test of the name tokens among pieces, as a test of what the pieces say
+pieces_say : (new : List ℕ) (pieces : List PlacedPiece) → list_all (no_such_name new) (tokens_among pieces) ≡ true → list_all (piece_says_other new) pieces ≡ true
+pieces_say new [] a = refl
+pieces_say new (piece ∷ pieces) a = go piece.kind a (pieces_say new pieces)
   where
     either : (k e : Bool) → (not (not k) || not e) ≡ true → (k || not e) ≡ true
     either true e h = refl
     either false e h = h
 
-    go : (k : PieceKind) → (not (is_word k && not (is_keyword t.value)) || not (bytes_eq t.value new)) ≡ true → says_other new (lexeme k t.value) ≡ true
-    go Blank h = refl
-    go Comment h = refl
-    go LineEnd h = refl
-    go Word h = either (is_keyword t.value) (bytes_eq t.value new) h
-    go Whole h = refl
-    go Mark h = refl
+    go : (k : PieceKind) → list_all (no_such_name new) (cons_option (option_map (as_token piece) (token_kind k)) (tokens_among pieces)) ≡ true
+        → (list_all (no_such_name new) (tokens_among pieces) ≡ true → list_all (piece_says_other new) pieces ≡ true)
+        → (says_other new (lexeme k piece.value) && list_all (piece_says_other new) pieces) ≡ true
+    go Blank a r = r a
+    go Comment a r = r a
+    go LineEnd a r = r a
+    go Word a r =
+        let s = and_parts (no_such_name new (as_token piece kinds.Word)) (list_all (no_such_name new) (tokens_among pieces)) a in
+        and_from (says_other new (word piece.value)) (list_all (piece_says_other new) pieces) (either (is_keyword piece.value) (bytes_eq piece.value new) s.0) (r s.1)
+    go Whole a r = r a
+    go Mark a r = r a
 
 -- Where no name token is that word, no row says it.
-pub rows_say_other : (new : List ℕ) (tokens : List Token) → find (λ token. bytes_eq token.value new) (name_tokens tokens) ≡ None → list_all (list_all (says_other new)) (lexeme_rows tokens) ≡ true
-rows_say_other new tokens e =
-    let a = find_none (λ (token : Token). bytes_eq token.value new) (name_tokens tokens) e in
-    let b = all_from_filter (λ (token : Token). not (bytes_eq token.value new)) is_name_token tokens a in
-    let c = all_weaken (λ (token : Token). not (is_name_token token) || not (bytes_eq token.value new)) (λ (token : Token). says_other new (lexeme_of token)) (token_says new) tokens b in
-    let d = all_filter (list_all (λ (token : Token). says_other new (lexeme_of token))) is_some_row (token_lines tokens) (all_token_lines (λ (token : Token). says_other new (lexeme_of token)) tokens c) in
-    all_map (list_all (says_other new)) (map lexeme_of) (rows_of tokens)
-    ∙ all_weaken (list_all (λ (token : Token). says_other new (lexeme_of token))) (λ (row : List Token). list_all (says_other new) (map lexeme_of row)) (λ row h. all_map (says_other new) lexeme_of row ∙ h) (rows_of tokens) d
+pub rows_say_other : (new : List ℕ) (pieces : List PlacedPiece) → find (λ token. bytes_eq token.value new) (name_tokens (tokens_among pieces)) ≡ None → list_all (list_all (says_other new)) (lexeme_rows pieces) ≡ true
+rows_say_other new pieces e =
+    let a = find_none (λ (token : Token). bytes_eq token.value new) (name_tokens (tokens_among pieces)) e in
+    let b = all_from_filter (λ (token : Token). not (bytes_eq token.value new)) is_name_token (tokens_among pieces) a in
+    let c = pieces_say new pieces b in
+    let d = all_filter (list_all (piece_says_other new)) is_some_row (token_lines pieces) (all_token_lines (piece_says_other new) pieces c) in
+    all_map (list_all (says_other new)) (map lexeme_of) (rows_of pieces)
+    ∙ all_weaken (list_all (piece_says_other new)) (λ (row : List PlacedPiece). list_all (says_other new) (map lexeme_of row)) (λ row h. all_map (says_other new) lexeme_of row ∙ h) (rows_of pieces) d
 
 -- ---- the names of a program are among its words
 
@@ -112,10 +127,10 @@ free_no_keyword name h = go (is_name 31 name) (is_keyword name) (is_intrinsic na
     go false true i h = absurd cc
 
 -- The names of a program are others than a word that no name token is.
-pub names_other : (new : List ℕ) (tokens : List Token) (p : Program) → find (λ token. bytes_eq token.value new) (name_tokens tokens) ≡ None
-    → lexeme_rows tokens ≡ spell_program p → list_all is_free_name (p.name ∷ variables p) ≡ true → list_all (is_other new) (p.name ∷ variables p) ≡ true
-names_other new tokens p none spelled free =
-    let a : list_all (list_all (says_other new)) (spell_program p) ≡ true = ap (list_all (list_all (says_other new))) (sym spelled) ∙ rows_say_other new tokens none in
+pub names_other : (new : List ℕ) (pieces : List PlacedPiece) (p : Program) → find (λ token. bytes_eq token.value new) (name_tokens (tokens_among pieces)) ≡ None
+    → lexeme_rows pieces ≡ spell_program p → list_all is_free_name (p.name ∷ variables p) ≡ true → list_all (is_other new) (p.name ∷ variables p) ≡ true
+names_other new pieces p none spelled free =
+    let a : list_all (list_all (says_other new)) (spell_program p) ≡ true = ap (list_all (list_all (says_other new))) (sym spelled) ∙ rows_say_other new pieces none in
     all_both is_free_name (λ name. says_other new (word name)) (is_other new) each (p.name ∷ variables p) free (names_say (says_other new) p a)
   where
     each : (name : List ℕ) → is_free_name name ≡ true → (is_keyword name || is_other new name) ≡ true → is_other new name ≡ true

@@ -6,7 +6,7 @@ use Rattle.std.specs.Option.{option_map}
 use Rattle.std.proofs.lemmas.Bool.{cond-true, lt-ltb}
 use Rattle.std.proofs.lemmas.List.{drop_all}
 use Rattle.std.proofs.lemmas.Option.{slice_get-map}
-use Rattle.free_scan.specs.declared.first_form.token.Token.{Token}
+use Rattle.ftn_tree.specs.declared.token.Token.{Token}
 use Rattle.ftn_tree.specs.Breaks.{line_limit}
 use Rattle.ftn_tree.specs.Lines.{is_line_feed}
 use Rattle.std.specs.List.{onto_first}

@@ -14,11 +14,10 @@ use Rattle.free_scan.specs.Pieces.{front, mark_at}
 use Rattle.free_scan.specs.Tokens.{is_line_end, line_after}
 use Rattle.free_scan.specs.declared.first_form.token.PieceKind.{PieceKind}
 use Rattle.free_scan.specs.declared.first_form.token.PieceKind.TheVariants.{Blank, Comment, LineEnd, Word, Whole, Mark}
-use Rattle.free_scan.specs.declared.first_form.token.Token.{Token}
-use Rattle.rename_ref.specs.Names.{is_word}
+use Rattle.ftn_tree.specs.declared.token.Token.{Token}
 use Rattle.rename_ref.proofs.Alls.{all_weaken, all_append_parts, all_append}
 use Rattle.rename_ref.proofs.Fronts.{letter_name_byte, in_comment, front_is, FrontIs, line_end, blank, comment, word, whole, one, front_some, mark_is, run_at, no_pair, two_marks, found, same_piece}
-use Rattle.rename_ref.proofs.Chunks.{Chunk, joined, AreFronts, is_old, tokens_where, token_at}
+use Rattle.rename_ref.proofs.Chunks.{is_word_piece, Chunk, joined, AreFronts, is_old, tokens_where, token_at}
 use Rattle.rename_ref.proofs.PiecesRenamed.{put}
 use Rattle.rename_ref.proofs.TokensRenamed.{map_onto_first}
 
@@ -224,7 +223,7 @@ after_front (x ∷ xs) b zs [] e = let d : xs ++ b ∷ zs ≡ [] = cc in absurd 
 after_front (x ∷ xs) b zs (f ∷ front) e = let d : xs ++ b ∷ zs ≡ front ++ 10 ∷ [] = cc in after_front xs b zs front d
 
 -- a word is no end of a line
-no_end : (k : PieceKind) → is_word k ≡ true → is_line_end k ≡ true → ⊥
+no_end : (k : PieceKind) → is_word_piece k ≡ true → is_line_end k ≡ true → ⊥
 no_end Blank w e = absurd cc
 no_end Comment w e = absurd cc
 no_end LineEnd w e = absurd cc
@@ -234,7 +233,7 @@ no_end Mark w e = absurd cc
 
 -- a word does not end with LF
 old_no_end : (old : List ℕ) (c : Chunk) → is_old old c ≡ true → Fine c → (front : List ℕ) → c.1 ≡ front ++ 10 ∷ [] → ⊥
-old_no_end old c o (ending e w) front d = no_end c.0 (and_parts (is_word c.0) (bytes_eq (folded c.1) old) o).0 e
+old_no_end old c o (ending e w) front d = no_end c.0 (and_parts (is_word_piece c.0) (bytes_eq (folded c.1) old) o).0 e
 old_no_end old c o (inside e b r w a) front d =
     let k : list_all in_comment (front ++ 10 ∷ []) ≡ true = ap (list_all in_comment) (sym d ∙ w) ∙ a in
     let s = all_append_parts in_comment front (10 ∷ []) k in
@@ -407,7 +406,7 @@ token_on_line old q at line (c ∷ cs) a i l e h =
         absurd (only (or_cases (is_old old c) false d))
       where
         only : (is_old old c ≡ true) ⊎ (false ≡ true) → ⊥
-        only (inl o) = no_end c.0 (and_parts (is_word c.0) (bytes_eq (folded c.1) old) o).0 k
+        only (inl o) = no_end c.0 (and_parts (is_word_piece c.0) (bytes_eq (folded c.1) old) o).0 k
         only (inr o) = absurd cc
     go true k (suc j) e here rest =
         let n : line_after line c.0 ≡ line + 1 = line_goes line c.0 k in

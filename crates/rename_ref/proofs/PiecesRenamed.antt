@@ -9,18 +9,17 @@ use Rattle.free_scan.specs.Pieces.{front}
 use Rattle.free_scan.specs.Tokens.{line_after}
 use Rattle.free_scan.specs.declared.first_form.token.PieceKind.{PieceKind}
 use Rattle.free_scan.specs.declared.first_form.token.PieceKind.TheVariants.{Blank, Comment, LineEnd, Word, Whole, Mark}
-use Rattle.free_scan.specs.declared.first_form.token.Token.{Token}
-use Rattle.rename_ref.specs.Names.{is_word}
+use Rattle.ftn_tree.specs.declared.token.Token.{Token}
 use Rattle.rename_ref.specs.Edits.{applied_from, replacing}
 use Rattle.rename_ref.proofs.Fronts.{BeginAlike, stops_alike, name_byte_uniform, front_some, front_alike, word_is, word_from}
-use Rattle.rename_ref.proofs.Chunks.{Chunk, joined, AreFronts, is_old, tokens_where, token_at}
+use Rattle.rename_ref.proofs.Chunks.{is_word_piece, Chunk, joined, AreFronts, is_old, tokens_where, token_at}
 
 -- the new bytes in place of that word
 abbrev pub put : List ℕ → List ℕ → Chunk → Chunk
 put old new c = (c.0, if is_old old c then new else c.1)
 
 -- what is a word is of that kind
-pub word_kind : (k : PieceKind) → is_word k ≡ true → k ≡ Word
+pub word_kind : (k : PieceKind) → is_word_piece k ≡ true → k ≡ Word
 word_kind Blank e = absurd cc
 word_kind Comment e = absurd cc
 word_kind LineEnd e = absurd cc
@@ -46,7 +45,7 @@ module _ (old new : List ℕ) (limit : ℕ) (name : is_name limit new ≡ true) 
       go [] t p f = let s = front_some (joined cs) c.0 0 f in absurd (omega arith)
       go (b ∷ w) false p f = inl refl
       go (b ∷ w) true p f =
-          let k : c.0 ≡ Word = word_kind c.0 (and_parts (is_word c.0) (bytes_eq (folded c.1) old) p).0 in
+          let k : c.0 ≡ Word = word_kind c.0 (and_parts (is_word_piece c.0) (bytes_eq (folded c.1) old) p).0 in
           let a = word_is c.0 (b ∷ w) (joined cs) k f in
           let d = name_begins limit new name in
           let e : b ≡ a.0 = cc (a.2) in
@@ -60,7 +59,7 @@ module _ (old new : List ℕ) (limit : ℕ) (name : is_name limit new ≡ true) 
       go : (t : Bool) → is_old old c ≡ t → front ((if t then new else c.1) ++ joined (map (put old new) cs)) ≡ Some (c.0, length (if t then new else c.1))
       go false p = front_alike c.0 c.1 (joined cs) (joined (map (put old new) cs)) (begins cs fs.1) fs.0
       go true p =
-          let k : c.0 ≡ Word = word_kind c.0 (and_parts (is_word c.0) (bytes_eq (folded c.1) old) p).0 in
+          let k : c.0 ≡ Word = word_kind c.0 (and_parts (is_word_piece c.0) (bytes_eq (folded c.1) old) p).0 in
           let a = word_is c.0 c.1 (joined cs) k fs.0 in
           let s = stops_alike is_name_byte name_byte_uniform (joined cs) (joined (map (put old new) cs)) (begins cs fs.1) a.5 in
           word_from limit c.0 new (joined (map (put old new) cs)) k name s

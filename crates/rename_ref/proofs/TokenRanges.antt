@@ -1,6 +1,6 @@
 -- The ranges of the tokens of a text: they lie in the text, rise and don't overlap.
 use Rattle.std.proofs.Common.{◌≡◌, ℕ, zero, suc, ◌+◌, ◌-◌, ◌≤◌, Bool, true, false, not, cond, ◌&&◌, ◌==◌, List, [], ◌∷◌, length, drop, Option, Some, None, IsTrue, IfSome, refl, ap, sym, ◌∙◌, subst, arith}
-use Rattle.std.specs.List.{filter, prefix_len}
+use Rattle.std.specs.List.{filter, prefix_len, cons_option}
 use Rattle.std.specs.Option.{option_map}
 use Rattle.std.specs.Str.{bytes_eq}
 use Rattle.std.proofs.lemmas.Bool.{cond_both}
@@ -10,10 +10,12 @@ use Rattle.ftn_base.specs.Letters.{is_letter, is_digit, is_name_byte}
 use Rattle.ftn_tree.specs.Lines.{is_line_feed}
 use Rattle.ftn_tree.specs.Pieces.{is_pair, is_mark}
 use Rattle.free_scan.specs.Pieces.{Piece, mark_at, front, pieces_within, pieces_of}
-use Rattle.free_scan.specs.Tokens.{is_token, line_after, token, keep_if, tokens_from, tokens_of}
+use Rattle.free_scan.specs.Tokens.{is_kept, line_after, placed_piece, keep_if, placed_pieces_from, placed_pieces_of, token_kind, as_token, tokens_among, tokens_of}
 use Rattle.free_scan.specs.declared.first_form.token.PieceKind.{PieceKind}
 use Rattle.free_scan.specs.declared.first_form.token.PieceKind.TheVariants.{Blank, Comment, LineEnd, Word, Whole, Mark}
-use Rattle.free_scan.specs.declared.first_form.token.Token.{Token}
+use Rattle.free_scan.specs.declared.first_form.token.PlacedPiece.{PlacedPiece}
+use Rattle.ftn_tree.specs.declared.token.Token.{Token}
+use Rattle.ftn_tree.specs.declared.token.TokenKind.{TokenKind}
 use Rattle.rename_ref.specs.declared.edits.Edit.{Edit}
 use Rattle.rename_ref.specs.Edits.{fit, replacing}
 use Rattle.rename_ref.specs.Names.{is_name_token, denoting}
@@ -102,27 +104,34 @@ front_edit edit at size text edits start end inside h =
     })
 
 -- the edits of those tokens that are kept fit, where the edits of the tokens after the first do
-front_token : (kept : Bool) (keeps : Token → Bool) (first : Token) (others : List Token) (at size : ℕ) (text new : List ℕ)
+front_token : (kept : Bool) (keeps : Token → Bool) (first : PlacedPiece) (others : List PlacedPiece) (at size : ℕ) (text new : List ℕ)
     → first.range.start ≡ at → first.range.end ≡ at + size → size ≤ length text
-    → IsTrue (fit (at + size) (drop size text) (replacing new (filter keeps others)))
-    → IsTrue (fit at text (replacing new (filter keeps (keep_if kept first others))))
-front_token false keeps first others at size text new start end inside h = fits_before at size text (replacing new (filter keeps others)) inside h
-front_token true keeps first others at size text new start end inside h =
-    cond_both (keeps first) (first ∷ filter keeps others) (filter keeps others) (λ tokens. IsTrue (fit at text (replacing new tokens)))
-    (λ _. front_edit (record { range = first.range; text = new }) at size text (replacing new (filter keeps others)) start end inside h)
-    (λ _. fits_before at size text (replacing new (filter keeps others)) inside h)
+    → IsTrue (fit (at + size) (drop size text) (replacing new (filter keeps (tokens_among others))))
+    → IsTrue (fit at text (replacing new (filter keeps (tokens_among (keep_if kept first others)))))
+front_token false keeps first others at size text new start end inside h = fits_before at size text (replacing new (filter keeps (tokens_among others))) inside h
+front_token true keeps first others at size text new start end inside h = go (token_kind first.kind)
+  where
+    kept_others : List Token
+    kept_others = filter keeps (tokens_among others)
+
+    go : (kind : Option TokenKind) → IsTrue (fit at text (replacing new (filter keeps (cons_option (option_map (as_token first) kind) (tokens_among others)))))
+    go None = fits_before at size text (replacing new kept_others) inside h
+    go (Some kind) =
+        cond_both (keeps (as_token first kind)) (as_token first kind ∷ kept_others) kept_others (λ tokens. IsTrue (fit at text (replacing new tokens)))
+        (λ _. front_edit (record { range = first.range; text = new }) at size text (replacing new kept_others) start end inside h)
+        (λ _. fits_before at size text (replacing new kept_others) inside h)
 
 -- the edits that replace some of a text's tokens fit the text
 pub tokens_fit : (n at line : ℕ) (text : List ℕ) (pieces : List Piece) (keeps : Token → Bool) (new : List ℕ) → pieces_within n text ≡ Some pieces
-    → IsTrue (fit at text (replacing new (filter keeps (tokens_from at line text pieces))))
+    → IsTrue (fit at text (replacing new (filter keeps (tokens_among (placed_pieces_from at line text pieces)))))
 tokens_fit n at line text [] keeps new e = refl
 tokens_fit zero at line [] (piece ∷ pieces) keeps new e = absurd (cc)
 tokens_fit zero at line (b ∷ text) (piece ∷ pieces) keeps new e = absurd (cc)
 tokens_fit (suc n) at line [] (piece ∷ pieces) keeps new e = absurd (cc)
 tokens_fit (suc n) at line (b ∷ text) (piece ∷ pieces) keeps new e =
     let first = first_piece n b text piece pieces e in
-    front_token (is_token piece.0) keeps (token at line piece.0 (b ∷ text) piece.1)
-    (tokens_from (at + piece.1) (line_after line piece.0) (drop piece.1 (b ∷ text)) pieces) at piece.1 (b ∷ text) new refl refl first.within
+    front_token (is_kept piece.0) keeps (placed_piece at line piece.0 (b ∷ text) piece.1)
+    (placed_pieces_from (at + piece.1) (line_after line piece.0) (drop piece.1 (b ∷ text)) pieces) at piece.1 (b ∷ text) new refl refl first.within
     (tokens_fit n (at + piece.1) (line_after line piece.0) (drop piece.1 (b ∷ text)) pieces keeps new first.rest)
 
 filter_twice : (p q : Token → Bool) (tokens : List Token) → filter p (filter q tokens) ≡ filter (λ token. q token && p token) tokens
@@ -144,8 +153,9 @@ some_parts f (Some x) y e =
 pub kept_fit : (text : List ℕ) (tokens : List Token) (keeps : Token → Bool) (new : List ℕ) → tokens_of text ≡ Some tokens
     → IsTrue (fit 0 text (replacing new (filter keeps tokens)))
 kept_fit text tokens keeps new e =
-    let parts = some_parts (tokens_from 0 1 text) (pieces_of text) tokens e in
-    subst (λ found. IsTrue (fit 0 text (replacing new (filter keeps found)))) parts.2 (tokens_fit (length text) 0 1 text parts.0 keeps new parts.1)
+    let placed = some_parts tokens_among (placed_pieces_of text) tokens e in
+    let parts = some_parts (placed_pieces_from 0 1 text) (pieces_of text) placed.0 placed.1 in
+    subst (λ found. IsTrue (fit 0 text (replacing new (filter keeps found)))) (ap tokens_among parts.2 ∙ placed.2) (tokens_fit (length text) 0 1 text parts.0 keeps new parts.1)
 
 -- the edits that replace the tokens of one name fit the text
 pub denoting_fit : (text : List ℕ) (tokens : List Token) (old new : List ℕ) (edits : List Edit) → tokens_of text ≡ Some tokens

@@ -12,14 +12,14 @@ use Rattle.std.specs.List.{onto_first}
 use Rattle.free_scan.specs.Spelling.{Lexeme, word, whole, mark, lexeme_of, lexeme_rows, token_lines, is_some_row}
 use Rattle.free_scan.specs.Tokens.{value_of, line_after}
 use Rattle.free_scan.specs.declared.first_form.token.PieceKind.TheVariants.{Blank, Comment, LineEnd, Word, Whole, Mark}
-use Rattle.free_scan.specs.declared.first_form.token.Token.{Token}
+use Rattle.free_scan.specs.declared.first_form.token.PlacedPiece.{PlacedPiece}
+use Rattle.ftn_tree.specs.declared.token.Token.{Token}
 use Rattle.rename_ref.specs.declared.edits.Edit.{Edit}
 use Rattle.rename_ref.specs.Edits.{moved, replacing}
 use Rattle.rename_ref.specs.Kept.{placed, placed_after}
-use Rattle.rename_ref.specs.Names.{is_word}
 use Rattle.rename_ref.specs.Renaming.{renamed}
 use Rattle.rename_ref.proofs.Fronts.{front_some}
-use Rattle.rename_ref.proofs.Chunks.{Chunk, joined, AreFronts, is_old, is_name_chunk, tokens_where, token_at, tokens_in}
+use Rattle.rename_ref.proofs.Chunks.{is_word_piece, Chunk, joined, AreFronts, is_old, is_name_chunk, tokens_where, token_at, placed_at, placed_in}
 use Rattle.rename_ref.proofs.PiecesRenamed.{put}
 
 -- ---- where the edits put a place
@@ -107,7 +107,7 @@ pub put_word : (old new w : List ℕ) → folded (put old new (Word, w)).1 ≡ r
 put_word old new w = put_folded (bytes_eq (folded w) old) old new w
 
 -- a word token's value is the partner of what it was
-put_value : (old new : List ℕ) (c : Chunk) → is_word c.0 ≡ true → value_of c.0 (put old new c).1 ≡ renamed old (folded new) (value_of c.0 c.1)
+put_value : (old new : List ℕ) (c : Chunk) → is_word_piece c.0 ≡ true → value_of c.0 (put old new c).1 ≡ renamed old (folded new) (value_of c.0 c.1)
 put_value old new (Blank, w) e = absurd cc
 put_value old new (Comment, w) e = absurd cc
 put_value old new (LineEnd, w) e = absurd cc
@@ -195,7 +195,7 @@ placed_is old new free fresh before at now line (c ∷ cs) fs l =
         n ∙ sym m
 
     here : is_name_chunk c ≡ true → placed (token_at now line (put old new c)) ≡ placed_after f edits (token_at at line c)
-    here e = pair_is now (moved edits at) (value_of c.0 (put old new c).1) (f (value_of c.0 c.1)) place (put_value old new c (and_parts (is_word c.0) (not (is_keyword (folded c.1))) e).0)
+    here e = pair_is now (moved edits at) (value_of c.0 (put old new c).1) (f (value_of c.0 c.1)) place (put_value old new c (and_parts (is_word_piece c.0) (not (is_keyword (folded c.1))) e).0)
 
     rest : (t : Bool) → map placed (new_rest (length c.1)) ≡ map (placed_after f (before ++ others)) old_rest
         → map placed (new_rest (length new)) ≡ map (placed_after f ((before ++ edit_at new at c ∷ []) ++ others)) old_rest
@@ -224,15 +224,15 @@ map_rows f ([] ∷ xss) = map_rows f xss
 map_rows f ((x ∷ xs) ∷ xss) = ap (λ (r : List (List _)). map f (x ∷ xs) ∷ r) (map_rows f xss)
 
 -- the lexemes of each line
-abbrev pub lexeme_lines : List Token → List (List Lexeme)
-lexeme_lines tokens = map (map lexeme_of) (token_lines tokens)
+abbrev pub lexeme_lines : List PlacedPiece → List (List Lexeme)
+lexeme_lines pieces = map (map lexeme_of) (token_lines pieces)
 
 -- the rows of lexemes are the lines that have one
-pub lexeme_rows_is : (tokens : List Token) → lexeme_rows tokens ≡ filter is_some_row (lexeme_lines tokens)
-lexeme_rows_is tokens = map_rows lexeme_of (token_lines tokens)
+pub lexeme_rows_is : (pieces : List PlacedPiece) → lexeme_rows pieces ≡ filter is_some_row (lexeme_lines pieces)
+lexeme_rows_is pieces = map_rows lexeme_of (token_lines pieces)
 
 -- one token more on the first line
-one_more : (t u : Token) (ts us : List Token) (f : Lexeme → Lexeme) → lexeme_of u ≡ f (lexeme_of t) → lexeme_lines us ≡ map (map f) (lexeme_lines ts)
+one_more : (t u : PlacedPiece) (ts us : List PlacedPiece) (f : Lexeme → Lexeme) → lexeme_of u ≡ f (lexeme_of t) → lexeme_lines us ≡ map (map f) (lexeme_lines ts)
     → map (map lexeme_of) (onto_first u (token_lines us)) ≡ map (map f) (map (map lexeme_of) (onto_first t (token_lines ts)))
 one_more t u ts us f e r =
     map_onto_first lexeme_of u (token_lines us) ∙ ap (λ (x : Lexeme). onto_first x (lexeme_lines us)) e ∙ ap (onto_first (f (lexeme_of t))) r
@@ -240,26 +240,26 @@ one_more t u ts us f e r =
 
 -- each line of lexemes has the partners of its words
 lines_renamed : (old new : List ℕ) (at now line other : ℕ) (cs : List Chunk)
-    → lexeme_lines (tokens_in now other (map (put old new) cs)) ≡ map (map (map_lexeme (renamed old (folded new)))) (lexeme_lines (tokens_in at line cs))
+    → lexeme_lines (placed_in now other (map (put old new) cs)) ≡ map (map (map_lexeme (renamed old (folded new)))) (lexeme_lines (placed_in at line cs))
 lines_renamed old new at now line other [] = refl
 lines_renamed old new at now line other ((Blank, w) ∷ cs) = lines_renamed old new (at + length w) (now + length w) line other cs
 lines_renamed old new at now line other ((Comment, w) ∷ cs) = lines_renamed old new (at + length w) (now + length w) line other cs
 lines_renamed old new at now line other ((LineEnd, w) ∷ cs) = ap (λ (ls : List (List Lexeme)). [] ∷ ls) (lines_renamed old new (at + length w) (now + length w) (line + 1) (other + 1) cs)
 lines_renamed old new at now line other ((Word, w) ∷ cs) =
-    one_more (token_at at line (Word, w)) (token_at now other (put old new (Word, w))) (tokens_in (at + length w) line cs) (tokens_in (now + length (put old new (Word, w)).1) other (map (put old new) cs)) (map_lexeme (renamed old (folded new)))
+    one_more (placed_at at line (Word, w)) (placed_at now other (put old new (Word, w))) (placed_in (at + length w) line cs) (placed_in (now + length (put old new (Word, w)).1) other (map (put old new) cs)) (map_lexeme (renamed old (folded new)))
     (ap word (put_word old new w)) (lines_renamed old new (at + length w) (now + length (put old new (Word, w)).1) line other cs)
 lines_renamed old new at now line other ((Whole, w) ∷ cs) =
-    one_more (token_at at line (Whole, w)) (token_at now other (Whole, w)) (tokens_in (at + length w) line cs) (tokens_in (now + length w) other (map (put old new) cs)) (map_lexeme (renamed old (folded new)))
+    one_more (placed_at at line (Whole, w)) (placed_at now other (Whole, w)) (placed_in (at + length w) line cs) (placed_in (now + length w) other (map (put old new) cs)) (map_lexeme (renamed old (folded new)))
     refl (lines_renamed old new (at + length w) (now + length w) line other cs)
 lines_renamed old new at now line other ((Mark, w) ∷ cs) =
-    one_more (token_at at line (Mark, w)) (token_at now other (Mark, w)) (tokens_in (at + length w) line cs) (tokens_in (now + length w) other (map (put old new) cs)) (map_lexeme (renamed old (folded new)))
+    one_more (placed_at at line (Mark, w)) (placed_at now other (Mark, w)) (placed_in (at + length w) line cs) (placed_in (now + length w) other (map (put old new) cs)) (map_lexeme (renamed old (folded new)))
     refl (lines_renamed old new (at + length w) (now + length w) line other cs)
 
 -- Each row of lexemes has the partners of its words.
 pub rows_renamed : (old new : List ℕ) (at now line other : ℕ) (cs : List Chunk)
-    → lexeme_rows (tokens_in now other (map (put old new) cs)) ≡ map (map (map_lexeme (renamed old (folded new)))) (lexeme_rows (tokens_in at line cs))
+    → lexeme_rows (placed_in now other (map (put old new) cs)) ≡ map (map (map_lexeme (renamed old (folded new)))) (lexeme_rows (placed_in at line cs))
 rows_renamed old new at now line other cs =
-    lexeme_rows_is (tokens_in now other (map (put old new) cs))
+    lexeme_rows_is (placed_in now other (map (put old new) cs))
     ∙ ap (filter is_some_row) (lines_renamed old new at now line other cs)
-    ∙ sym (map_rows (map_lexeme (renamed old (folded new))) (lexeme_lines (tokens_in at line cs)))
-    ∙ ap (map (map (map_lexeme (renamed old (folded new))))) (sym (lexeme_rows_is (tokens_in at line cs)))
+    ∙ sym (map_rows (map_lexeme (renamed old (folded new))) (lexeme_lines (placed_in at line cs)))
+    ∙ ap (map (map (map_lexeme (renamed old (folded new))))) (sym (lexeme_rows_is (placed_in at line cs)))

@@ -6,7 +6,7 @@ use Rattle.ftn_base.specs.Keywords.{is_keyword, is_intrinsic}
 use Rattle.ftn_base.specs.Letters.{folded}
 use Rattle.ftn_base.specs.Names.{is_name, name_limit}
 use Rattle.ftn_base.specs.declared.name.Edition.TheVariants.{F90}
-use Rattle.free_scan.specs.declared.first_form.token.Token.{Token}
+use Rattle.ftn_tree.specs.declared.token.Token.{Token}
 use Rattle.ftn_tree.specs.Breaks.{line_limit}
 use Rattle.free_scan.specs.Lines.{lines}
 use Rattle.rename_ref.specs.declared.rename.Rename.{Rename}

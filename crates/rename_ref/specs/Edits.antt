@@ -2,7 +2,7 @@
 use Rattle.std.specs.Prelude.{ℕ, Bool, true, ◌&&◌, ◌+◌, ◌-◌, nat_le, List, [], ◌∷◌, ◌++◌, map, take, drop, length}
 use Rattle.std.specs.List.{filter, sum_by}
 use Rattle.rename_ref.specs.declared.edits.Edit.{Edit}
-use Rattle.free_scan.specs.declared.first_form.token.Token.{Token}
+use Rattle.ftn_tree.specs.declared.token.Token.{Token}
 
 -- The ranges lie in the text that begins at that offset, are sorted and don't overlap.
 abbrev pub fit : ℕ → List ℕ → List Edit → Bool

@@ -4,7 +4,7 @@ use Rattle.ftn_base.specs.Letters.{folded}
 use Rattle.free_scan.specs.FirstForm.{IsProgramText}
 use Rattle.free_scan.specs.Tokens.{tokens_of}
 use Rattle.free_scan.specs.declared.first_form.program.Program.{Program}
-use Rattle.free_scan.specs.declared.first_form.token.Token.{Token}
+use Rattle.ftn_tree.specs.declared.token.Token.{Token}
 use Rattle.rename_ref.specs.declared.rename.Rename.{Rename}
 use Rattle.rename_ref.specs.declared.judgement.Judgement.TheVariants.{Accept}
 use Rattle.rename_ref.specs.Conditions.{chosen, judged}

@@ -5,7 +5,7 @@ use Rattle.std.specs.Option.{option_map}
 use Rattle.std.specs.Str.{bytes_eq}
 use Rattle.ftn_base.specs.declared.entity.Ty.{Ty}
 use Rattle.ftn_base.specs.declared.entity.Ty.TheVariants.{Integer}
-use Rattle.free_scan.specs.declared.first_form.token.Token.{Token}
+use Rattle.ftn_tree.specs.declared.token.Token.{Token}
 use Rattle.free_scan.specs.declared.first_form.program.Program.{Program}
 use Rattle.free_scan.specs.Clean.{variables, are_distinct}
 use Rattle.free_scan.specs.FirstForm.{IsProgramText}

@@ -5,16 +5,16 @@ use Rattle.std.specs.Option.{option_and_then}
 use Rattle.std.specs.Str.{bytes_eq}
 use Rattle.ftn_base.specs.Keywords.{is_keyword}
 use Rattle.ftn_base.specs.Places.{offset_of}
-use Rattle.free_scan.specs.declared.first_form.token.PieceKind.{PieceKind}
-use Rattle.free_scan.specs.declared.first_form.token.PieceKind.TheVariants.{Blank, Comment, LineEnd, Word, Whole, Mark}
-use Rattle.free_scan.specs.declared.first_form.token.Token.{Token}
+use Rattle.ftn_tree.specs.declared.token.Token.{Token}
+use Rattle.ftn_tree.specs.declared.token.TokenKind.{TokenKind}
+use Rattle.ftn_tree.specs.declared.token.TokenKind.TheVariants.{Word, Whole, RealForm, Quoted, Dotted, Mark}
 
-abbrev pub is_word : PieceKind → Bool
+abbrev pub is_word : TokenKind → Bool
 is_word Word = true
-is_word Blank = false
-is_word Comment = false
-is_word LineEnd = false
 is_word Whole = false
+is_word RealForm = false
+is_word Quoted = false
+is_word Dotted = false
 is_word Mark = false
 
 -- In first form no name is a word of statements.

@@ -14,8 +14,8 @@ ghost use Rattle.rename_ref.specs.Names.{denoting, name_tokens};
 
 use crate::edits::Edit;
 use crate::rename::Rename;
-use free_scan::first_form::{PieceKind, Token};
 use ftn_base::{Bytes, FileName, NoMemory, is_intrinsic, is_keyword, offset_at};
+use ftn_tree::{Token, TokenKind};
 use std::alloc::Global;
 
 /// How many bytes a line may have, its LF among them (3.3.1).
@@ -34,10 +34,10 @@ fn has_value(token: &Token, value: &[u8]) -> bool
     token.value.bytes() == value
 }
 
-fn is_word(kind: PieceKind) -> bool
+fn is_word(kind: TokenKind) -> bool
     ensures { result ≡ names.is_word kind }
 {
-    matches!(kind, PieceKind::Word)
+    matches!(kind, TokenKind::Word)
 }
 
 fn is_name_token(token: &Token) -> bool

@@ -9,8 +9,8 @@ ghost use Rattle.rename_ref.specs.Names.{denoting};
 use crate::conditions::{chosen, first_of, is_reserved, line_lengths, on_long_line, replacing};
 use crate::edits::apply;
 use crate::rename::Rename;
-use free_scan::first_form::Token;
 use ftn_base::{Bytes, Edition, FileName, NoMemory, folded, is_name};
+use ftn_tree::Token;
 use std::alloc::Global;
 
 /// A condition of a refactoring that may fail. The names are those that are printed.

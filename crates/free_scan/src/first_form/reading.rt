@@ -15,15 +15,16 @@ use crate::first_form::rows::rows;
 use crate::first_form::statements::{
     is_closing, is_declaration, read_declaration, read_opening, read_statement,
 };
-use crate::first_form::token::{Token, scan};
+use crate::first_form::token::{PlacedPiece, scan, tokens_among};
 use ftn_base::{Name, NoMemory};
+use ftn_tree::Token;
 use sqlite_items::Items;
 use std::alloc::Global;
 
 /// A text in first form: its tokens, and the program that it spells.
 #[derive(Debug, Drop)]
 pub struct FirstForm {
-    /// The tokens, ends of lines among them.
+    /// The tokens.
     pub tokens: Items<Token>,
     /// The program.
     pub program: Program,
@@ -31,7 +32,7 @@ pub struct FirstForm {
 
 fn read_declarations(
     alloc: Global,
-    rows: &[&[Token]],
+    rows: &[&[PlacedPiece]],
 ) -> Result<Option<Items<Items<Name>>>, NoMemory>
     ensures { IfOk result (λ found. found ≡ spec.read_all spec.read_declaration (map (λ row. map lexeme_of row.now) rows.now)) }
 {
@@ -45,7 +46,10 @@ fn read_declarations(
     Ok(Some(declared))
 }
 
-fn read_statements(alloc: Global, rows: &[&[Token]]) -> Result<Option<Items<Statement>>, NoMemory>
+fn read_statements(
+    alloc: Global,
+    rows: &[&[PlacedPiece]],
+) -> Result<Option<Items<Statement>>, NoMemory>
     ensures { IfOk result (λ found. found ≡ spec.read_all spec.read_statement (map (λ row. map lexeme_of row.now) rows.now)) }
 {
     let mut statements = Items::new(alloc);
@@ -58,14 +62,18 @@ fn read_statements(alloc: Global, rows: &[&[Token]]) -> Result<Option<Items<Stat
     Ok(Some(statements))
 }
 
-fn count_declarations(rows: &[&[Token]]) -> usize
+fn count_declarations(rows: &[&[PlacedPiece]]) -> usize
     ensures { result ≡ prefix_len (λ row. spec.is_declaration (map lexeme_of row.now)) rows.now }
 {
     rows.iter().take_while(|row| is_declaration(row)).count()
 }
 
 #[tactic(auto, unfolding(crate::specs::Reading::read_body))]
-fn read_body(alloc: Global, name: Name, rows: &[&[Token]]) -> Result<Option<Program>, NoMemory>
+fn read_body(
+    alloc: Global,
+    name: Name,
+    rows: &[&[PlacedPiece]],
+) -> Result<Option<Program>, NoMemory>
     ensures { IfOk result (λ found. found ≡ spec.read_body name (map (λ row. map lexeme_of row.now) rows.now)) }
 {
     let (declared, statements) = rows.split_at(count_declarations(rows));
@@ -83,7 +91,7 @@ fn read_body(alloc: Global, name: Name, rows: &[&[Token]]) -> Result<Option<Prog
 }
 
 #[tactic(auto, unfolding(crate::specs::Reading::read_program))]
-fn read_program(alloc: Global, rows: &[&[Token]]) -> Result<Option<Program>, NoMemory>
+fn read_program(alloc: Global, rows: &[&[PlacedPiece]]) -> Result<Option<Program>, NoMemory>
     ensures { IfOk result (λ found. found ≡ spec.read_program (map (λ row. map lexeme_of row.now) rows.now)) }
 {
     let [opening, body @ .., closing] = rows else {
@@ -99,10 +107,10 @@ fn read_program(alloc: Global, rows: &[&[Token]]) -> Result<Option<Program>, NoM
 }
 
 #[tactic(auto, unfolding(crate::specs::Reading::read_clean))]
-fn read_clean(alloc: Global, tokens: &[Token]) -> Result<Option<Program>, NoMemory>
-    ensures { IfOk result (λ found. found ≡ spec.read_clean (lexeme_rows tokens.now)) }
+fn read_clean(alloc: Global, pieces: &[PlacedPiece]) -> Result<Option<Program>, NoMemory>
+    ensures { IfOk result (λ found. found ≡ spec.read_clean (lexeme_rows pieces.now)) }
 {
-    let rows = rows(alloc, tokens)?;
+    let rows = rows(alloc, pieces)?;
     let Some(program) = read_program(alloc, &rows)? else {
         return Ok(None);
     };
@@ -122,12 +130,13 @@ pub fn read_first_form(alloc: Global, text: &[u8]) -> Result<Option<FirstForm>, 
     if !is_plain(text) {
         return Ok(None);
     }
-    let Some(tokens) = scan(alloc, text)? else {
+    let Some(pieces) = scan(alloc, text)? else {
         return Ok(None);
     };
-    let Some(program) = read_clean(alloc, tokens.as_slice())? else {
+    let Some(program) = read_clean(alloc, &pieces)? else {
         return Ok(None);
     };
+    let tokens = tokens_among(alloc, pieces)?;
     Ok(Some(FirstForm { tokens, program }))
 }
 

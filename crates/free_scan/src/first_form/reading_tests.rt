@@ -1,10 +1,13 @@
 //! A small program, and texts that spell none.
 
-use crate::first_form::read_first_form;
+use crate::first_form::{FirstForm, read_first_form};
+use ftn_tree::{Token, TokenKind};
 use std::test::Fail;
 
 const SMALL: &[u8] =
     b"PROGRAM demo ! a small one\n  integer :: a, b\n  integer :: c\n\n  a = 1\n  b = A + 2 - c\n  print *, a, b - 1\nend program demo\n";
+
+const BARE: &[u8] = b"program p ! bare\nEND program p\n";
 
 /// A keyword as a name, a name that is not declared, one that is declared twice, the program's name as a variable, a number
 /// that is too great, a comma with nothing after it, two statements on a row, no end, and the end of another program.
@@ -38,6 +41,31 @@ fn refuses_other_texts(rt: HostRuntime) -> Result<(), Fail> {
     for text in OTHERS {
         let found = read_first_form(rt.alloc(), text)?;
         assert!(rt; found.is_none());
+    }
+    Ok(())
+}
+
+fn is_end_of_bare(token: &Token) -> bool {
+    token.kind == TokenKind::Word
+        && token.range.start == 17
+        && token.range.end == 20
+        && token.line == 2
+        && !token.split
+        && token.value.bytes() == b"end".as_slice()
+}
+
+fn has_tokens_of_bare(form: &FirstForm) -> bool {
+    match form.tokens.get(2) {
+        Some(token) => form.tokens.len() == 5 && is_end_of_bare(token),
+        None => false,
+    }
+}
+
+#[test]
+fn gives_tokens_and_no_ends_of_lines(rt: HostRuntime) -> Result<(), Fail> {
+    match read_first_form(rt.alloc(), BARE)? {
+        Some(form) => assert!(rt; has_tokens_of_bare(&form)),
+        None => assert!(rt; false),
     }
     Ok(())
 }

@@ -8,7 +8,7 @@ ghost use Rattle.free_scan.specs.Reading as spec;
 ghost use Rattle.free_scan.specs.Spelling.{is_some_row, lexeme_of, number_of, rows_of};
 ghost use Rattle.free_scan.specs.Tokens.{is_line_end};
 
-use crate::first_form::token::{PieceKind, Token};
+use crate::first_form::token::{PieceKind, PlacedPiece};
 use ftn_base::NoMemory;
 use std::alloc::Global;
 
@@ -23,7 +23,7 @@ pub fn is_text(bytes: &[u8], text: &[u8]) -> bool
 }
 
 /// Whether the token is that mark.
-pub fn says_mark(token: &Token, text: &[u8]) -> bool
+pub fn says_mark(token: &PlacedPiece, text: &[u8]) -> bool
     ensures { result ≡ spec.says_mark text.now (lexeme_of token.now) }
 {
     match token.kind {
@@ -35,26 +35,26 @@ pub fn says_mark(token: &Token, text: &[u8]) -> bool
 }
 
 /// Whether the token is that word.
-pub fn says_word(token: &Token, text: &[u8]) -> bool
+pub fn says_word(token: &PlacedPiece, text: &[u8]) -> bool
     ensures { result ≡ spec.says_word text.now (lexeme_of token.now) }
 {
     token.kind == PieceKind::Word && is_text(token.value.bytes(), text)
 }
 
 /// Whether the token is a comma.
-pub fn is_comma(token: &Token) -> bool
+pub fn is_comma(token: &PlacedPiece) -> bool
     ensures { result ≡ spec.is_comma (lexeme_of token.now) }
 {
     says_mark(token, b",")
 }
 
-fn ends_line(token: &Token) -> bool
-    ensures { result ≡ is_line_end token.now.kind }
+fn ends_line(piece: &PlacedPiece) -> bool
+    ensures { result ≡ is_line_end piece.now.kind }
 {
-    token.kind == PieceKind::LineEnd
+    piece.kind == PieceKind::LineEnd
 }
 
-fn is_some(row: &[Token]) -> bool
+fn is_some(row: &[PlacedPiece]) -> bool
     ensures { result ≡ is_some_row row.now }
 {
     matches!(row, [_, ..])
@@ -75,19 +75,19 @@ pub fn whole_value(digits: &[u8]) -> Option<u32>
 }
 
 /// The parts of a row between commas.
-pub fn parts(alloc: Global, row: &[Token]) -> Result<Vec<&[Token]>, NoMemory>
+pub fn parts(alloc: Global, row: &[PlacedPiece]) -> Result<Vec<&[PlacedPiece]>, NoMemory>
     ensures { IfOk result (λ found. map (λ part. map lexeme_of part.now) found.items ≡ slice_split spec.is_comma (map lexeme_of row.now)) }
 {
     Ok(row.split(|token| is_comma(token)).collect(alloc)?)
 }
 
 /// The rows of tokens on which a statement stands.
-pub fn rows(alloc: Global, tokens: &[Token]) -> Result<Vec<&[Token]>, NoMemory>
-    ensures { IfOk result (λ found. map (λ row. row.now) found.items ≡ rows_of tokens.now) }
+pub fn rows(alloc: Global, pieces: &[PlacedPiece]) -> Result<Vec<&[PlacedPiece]>, NoMemory>
+    ensures { IfOk result (λ found. map (λ row. row.now) found.items ≡ rows_of pieces.now) }
 {
     Ok(
-        tokens
-            .split(|token| ends_line(token))
+        pieces
+            .split(|piece| ends_line(piece))
             .filter(|row| is_some(row))
             .collect(alloc)?,
     )

@@ -6,12 +6,12 @@ ghost use Rattle.free_scan.specs.Spelling.{lexeme_of};
 
 use crate::first_form::program::{Operand, Sign, Statement, Sum, Term};
 use crate::first_form::rows::{is_comma, is_text, parts, says_mark, says_word, whole_value};
-use crate::first_form::token::{PieceKind, Token};
+use crate::first_form::token::{PieceKind, PlacedPiece};
 use ftn_base::{Edition, Name, NameFault, NoMemory};
 use sqlite_items::Items;
 use std::alloc::Global;
 
-fn word_of(alloc: Global, token: &Token) -> Result<Option<Name>, NoMemory>
+fn word_of(alloc: Global, token: &PlacedPiece) -> Result<Option<Name>, NoMemory>
     ensures { IfOk result (λ found. found ≡ spec.word_of (lexeme_of token.now)) }
 {
     if token.kind != PieceKind::Word {
@@ -36,7 +36,7 @@ fn lower_name(alloc: Global, word: &[u8]) -> Result<Option<Name>, NoMemory>
     }
 }
 
-fn read_operand(alloc: Global, token: &Token) -> Result<Option<Operand>, NoMemory>
+fn read_operand(alloc: Global, token: &PlacedPiece) -> Result<Option<Operand>, NoMemory>
     ensures { IfOk result (λ found. found ≡ spec.read_operand (lexeme_of token.now)) }
 {
     match token.kind {
@@ -52,7 +52,7 @@ fn read_operand(alloc: Global, token: &Token) -> Result<Option<Operand>, NoMemor
     }
 }
 
-fn read_sign(token: &Token) -> Option<Sign>
+fn read_sign(token: &PlacedPiece) -> Option<Sign>
     ensures { result ≡ spec.read_sign (lexeme_of token.now) }
 {
     if says_mark(token, b"+") {
@@ -64,7 +64,11 @@ fn read_sign(token: &Token) -> Option<Sign>
     }
 }
 
-fn read_term(alloc: Global, first: &Token, second: &Token) -> Result<Option<Term>, NoMemory>
+fn read_term(
+    alloc: Global,
+    first: &PlacedPiece,
+    second: &PlacedPiece,
+) -> Result<Option<Term>, NoMemory>
     ensures { IfOk result (λ found. found ≡ spec.read_term (lexeme_of first.now) (lexeme_of second.now)) }
 {
     let Some(sign) = read_sign(first) else {
@@ -76,7 +80,7 @@ fn read_term(alloc: Global, first: &Token, second: &Token) -> Result<Option<Term
     Ok(Some(Term { sign, operand }))
 }
 
-fn read_terms(alloc: Global, row: &[Token]) -> Result<Option<Items<Term>>, NoMemory>
+fn read_terms(alloc: Global, row: &[PlacedPiece]) -> Result<Option<Items<Term>>, NoMemory>
     ensures { IfOk result (λ found. found ≡ spec.read_terms (map lexeme_of row.now)) }
 {
     let mut terms = Items::new(alloc);
@@ -95,7 +99,7 @@ fn read_terms(alloc: Global, row: &[Token]) -> Result<Option<Items<Term>>, NoMem
 }
 
 #[tactic(auto, unfolding(crate::specs::Reading::read_sum))]
-fn read_sum(alloc: Global, row: &[Token]) -> Result<Option<Sum>, NoMemory>
+fn read_sum(alloc: Global, row: &[PlacedPiece]) -> Result<Option<Sum>, NoMemory>
     ensures { IfOk result (λ found. found ≡ spec.read_sum (map lexeme_of row.now)) }
 {
     let [first, rest @ ..] = row else {
@@ -110,7 +114,7 @@ fn read_sum(alloc: Global, row: &[Token]) -> Result<Option<Sum>, NoMemory>
     Ok(Some(Sum { first, rest }))
 }
 
-fn read_sums(alloc: Global, row: &[Token]) -> Result<Option<Items<Sum>>, NoMemory>
+fn read_sums(alloc: Global, row: &[PlacedPiece]) -> Result<Option<Items<Sum>>, NoMemory>
     ensures { IfOk result (λ found. found ≡ spec.read_sums (map lexeme_of row.now)) }
 {
     let parts = parts(alloc, row)?;
@@ -125,7 +129,7 @@ fn read_sums(alloc: Global, row: &[Token]) -> Result<Option<Items<Sum>>, NoMemor
 }
 
 /// The name that stands alone in a row.
-pub fn read_name(alloc: Global, row: &[Token]) -> Result<Option<Name>, NoMemory>
+pub fn read_name(alloc: Global, row: &[PlacedPiece]) -> Result<Option<Name>, NoMemory>
     ensures { IfOk result (λ found. found ≡ spec.read_name (map lexeme_of row.now)) }
 {
     match row {
@@ -134,7 +138,7 @@ pub fn read_name(alloc: Global, row: &[Token]) -> Result<Option<Name>, NoMemory>
     }
 }
 
-fn read_names(alloc: Global, row: &[Token]) -> Result<Option<Items<Name>>, NoMemory>
+fn read_names(alloc: Global, row: &[PlacedPiece]) -> Result<Option<Items<Name>>, NoMemory>
     ensures { IfOk result (λ found. found ≡ spec.read_names (map lexeme_of row.now)) }
 {
     let parts = parts(alloc, row)?;
@@ -149,7 +153,7 @@ fn read_names(alloc: Global, row: &[Token]) -> Result<Option<Items<Name>>, NoMem
 }
 
 /// Whether the row begins as a declaration does (5.1).
-pub fn is_declaration(row: &[Token]) -> bool
+pub fn is_declaration(row: &[PlacedPiece]) -> bool
     ensures { result ≡ spec.is_declaration (map lexeme_of row.now) }
 {
     match row {
@@ -160,7 +164,7 @@ pub fn is_declaration(row: &[Token]) -> bool
 
 /// The names that a row declares (5.1).
 #[tactic(auto, unfolding(crate::specs::Reading::read_declaration))]
-pub fn read_declaration(alloc: Global, row: &[Token]) -> Result<Option<Items<Name>>, NoMemory>
+pub fn read_declaration(alloc: Global, row: &[PlacedPiece]) -> Result<Option<Items<Name>>, NoMemory>
     ensures { IfOk result (λ found. found ≡ spec.read_declaration (map lexeme_of row.now)) }
 {
     match row {
@@ -177,8 +181,8 @@ pub fn read_declaration(alloc: Global, row: &[Token]) -> Result<Option<Items<Nam
 
 fn read_assignment(
     alloc: Global,
-    target: &Token,
-    value: &[Token],
+    target: &PlacedPiece,
+    value: &[PlacedPiece],
 ) -> Result<Option<Statement>, NoMemory>
     ensures { IfOk result (λ found. found ≡ spec.read_assignment (lexeme_of target.now) (map lexeme_of value.now)) }
 {
@@ -191,7 +195,7 @@ fn read_assignment(
     Ok(Some(Statement::Assign { target, value }))
 }
 
-fn read_print(alloc: Global, row: &[Token]) -> Result<Option<Statement>, NoMemory>
+fn read_print(alloc: Global, row: &[PlacedPiece]) -> Result<Option<Statement>, NoMemory>
     ensures { IfOk result (λ found. found ≡ spec.read_print (map lexeme_of row.now)) }
 {
     let [comma, items @ ..] = row else {
@@ -208,7 +212,7 @@ fn read_print(alloc: Global, row: &[Token]) -> Result<Option<Statement>, NoMemor
 
 /// The executable statement that a row spells (7.5.1, 9.4.2).
 #[tactic(auto, unfolding(crate::specs::Reading::read_statement))]
-pub fn read_statement(alloc: Global, row: &[Token]) -> Result<Option<Statement>, NoMemory>
+pub fn read_statement(alloc: Global, row: &[PlacedPiece]) -> Result<Option<Statement>, NoMemory>
     ensures { IfOk result (λ found. found ≡ spec.read_statement (map lexeme_of row.now)) }
 {
     let [first, second, rest @ ..] = row else {
@@ -224,7 +228,7 @@ pub fn read_statement(alloc: Global, row: &[Token]) -> Result<Option<Statement>,
 }
 
 /// The program's name, from the row that begins it (11.1).
-pub fn read_opening(alloc: Global, row: &[Token]) -> Result<Option<Name>, NoMemory>
+pub fn read_opening(alloc: Global, row: &[PlacedPiece]) -> Result<Option<Name>, NoMemory>
     ensures { IfOk result (λ found. found ≡ spec.read_opening (map lexeme_of row.now)) }
 {
     let [first, rest @ ..] = row else {
@@ -238,7 +242,7 @@ pub fn read_opening(alloc: Global, row: &[Token]) -> Result<Option<Name>, NoMemo
 }
 
 /// Whether the row ends the program of that name (11.1).
-pub fn is_closing(name: &Name, row: &[Token]) -> bool
+pub fn is_closing(name: &Name, row: &[PlacedPiece]) -> bool
     ensures { result ≡ spec.is_closing name.now (map lexeme_of row.now) }
 {
     match row {

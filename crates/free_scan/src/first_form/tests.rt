@@ -1,11 +1,11 @@
 //! A text as tokens, a text that is none, and lines that are plain.
 
-use crate::first_form::{PieceKind, Token, is_plain, scan};
+use crate::first_form::{PieceKind, PlacedPiece, is_plain, scan};
 use std::test::Fail;
 
 const PROGRAM: &[u8] = b"program demo\n  integer :: COUNT ! Count is kept\n  count = 2\n";
 
-/// Its tokens: what each is, its first byte, the one after it, its line, and what it says.
+/// Its tokens and ends of lines: what each is, its first byte, the one after it, its line, and what it says.
 const TOKENS: [(PieceKind, u32, u32, u32, &[u8]); 11] = [
     (PieceKind::Word, 0, 7, 1, b"program"),
     (PieceKind::Word, 8, 12, 1, b"demo"),
@@ -20,7 +20,7 @@ const TOKENS: [(PieceKind, u32, u32, u32, &[u8]); 11] = [
     (PieceKind::LineEnd, 59, 60, 3, b"\n"),
 ];
 
-fn is_as_wanted(token: &Token, at: usize) -> bool {
+fn is_as_wanted(token: &PlacedPiece, at: usize) -> bool {
     let Some((kind, start, end, line, value)) = TOKENS.get(at) else {
         return false;
     };

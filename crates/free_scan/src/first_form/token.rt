@@ -1,19 +1,21 @@
 //! Pieces and tokens of a text.
 
 ghost use Rattle.std.specs.List.{prefix_len, sum_by};
+ghost use Rattle.std.specs.Option.{option_map};
 ghost use Rattle.std.specs.Prelude.{◌≡◌, ◌<◌, ◌≤◌, ◌^◌, ◌+◌, ◌++◌, ◌∷◌, ◌↔◌, ℕ, List, [], Some, not, length, IfOk, OnOk, IfSome};
 ghost use Rattle.ftn_base.specs.Letters.{is_digit as digit, is_name_byte as name_byte};
 ghost use Rattle.ftn_tree.specs.Lines.{is_line_feed};
 ghost use Rattle.free_scan.specs.Pieces as pieces;
 ghost use Rattle.free_scan.specs.Tokens as tokens;
-ghost use Rattle.free_scan.specs.Tokens.{keep_if, tokens_of};
+ghost use Rattle.free_scan.specs.Tokens.{keep_if, placed_pieces_of, tokens_among};
 
 use crate::free_form::{is_mark, is_pair};
 use ftn_base::{Bytes, NoMemory, Range, folded, is_digit, is_letter, is_name_byte};
+use ftn_tree::{Token, TokenKind};
 use sqlite_items::Items;
 use std::alloc::Global;
 
-/// What a piece of a text is. A token is a piece that is no blank and no comment; the end of a line counts as one here.
+/// What a piece of a text is. One that is no blank, no comment and no end of a line is a token.
 #[derive(Clone, Copy, Debug, PartialEq, Eq)]
 pub enum PieceKind {
     /// One blank.
@@ -30,16 +32,16 @@ pub enum PieceKind {
     Mark,
 }
 
-/// A token with its place.
+/// A token or the end of a line, with its place.
 #[derive(Debug, Drop)]
-pub struct Token {
+pub struct PlacedPiece {
     /// What it is.
     pub kind: PieceKind,
     /// Its bytes in the text.
     pub range: Range,
     /// The line of its first byte, from 1.
     pub line: u32,
-    /// The word in lower case, or else the token's bytes.
+    /// The word in lower case, or else its bytes.
     pub value: Bytes,
 }
 
@@ -111,9 +113,9 @@ fn front(text: &[u8]) -> Option<(PieceKind, usize)>
     }
 }
 
-/// Whether a piece of that kind is a token.
-fn is_token(kind: PieceKind) -> bool
-    ensures { result ≡ tokens.is_token kind }
+/// Whether a piece of that kind is a token or the end of a line.
+fn is_kept(kind: PieceKind) -> bool
+    ensures { result ≡ tokens.is_kept kind }
 {
     !matches!(kind, PieceKind::Blank | PieceKind::Comment)
 }
@@ -131,7 +133,7 @@ fn line_after(line: u32, kind: PieceKind) -> u32
     }
 }
 
-/// What a token of that kind says: the word in lower case, or else its bytes.
+/// What a piece of that kind says: the word in lower case, or else its bytes.
 fn value_of(alloc: Global, kind: PieceKind, bytes: &[u8]) -> Result<Bytes, NoMemory>
     ensures { IfOk result (λ made. made ≡ tokens.value_of kind bytes.now) }
 {
@@ -142,25 +144,25 @@ fn value_of(alloc: Global, kind: PieceKind, bytes: &[u8]) -> Result<Bytes, NoMem
     }
 }
 
-/// The token of that kind and size at the front of the rest of a text, which begins at that offset and on that line.
-fn make_token(
+/// The piece of that kind and size at the front of the rest of a text, which begins at that offset and on that line.
+fn place_piece(
     alloc: Global,
     at: u32,
     line: u32,
     kind: PieceKind,
     rest: &[u8],
     size: usize,
-) -> Result<Token, NoMemory>
+) -> Result<PlacedPiece, NoMemory>
     requires within { size ≤ length rest.now }
     requires fits { at + size < 2 ^ 32 }
-    ensures { IfOk result (λ made. made ≡ tokens.token at line kind rest.now size) }
+    ensures { IfOk result (λ made. made ≡ tokens.placed_piece at line kind rest.now size) }
 {
     let value = value_of(alloc, kind, &rest[..size])?;
     let range = Range {
         start: at,
         end: at + size as u32,
     };
-    Ok(Token {
+    Ok(PlacedPiece {
         kind,
         range,
         line,
@@ -168,9 +170,9 @@ fn make_token(
     })
 }
 
-/// Keeps the piece of that kind and size at the front of the rest of a text, if it is a token.
+/// Keeps the piece of that kind and size at the front of the rest of a text, if it is a token or the end of a line.
 fn keep(
-    found: &mut Items<Token>,
+    found: &mut Vec<PlacedPiece>,
     alloc: Global,
     at: u32,
     line: u32,
@@ -180,21 +182,21 @@ fn keep(
 ) -> Result<(), NoMemory>
     requires within { size ≤ length rest.now }
     requires fits { at + size < 2 ^ 32 }
-    ensures { OnOk result (found.new ≡ found.old ++ keep_if (tokens.is_token kind) (tokens.token at line kind rest.now size) []) }
+    ensures { OnOk result (found.new.items ≡ found.old.items ++ keep_if (tokens.is_kept kind) (tokens.placed_piece at line kind rest.now size) []) }
 {
-    if is_token(kind) {
-        let token = make_token(alloc, at, line, kind, rest, size)?;
-        found.push(token)?;
+    if is_kept(kind) {
+        let piece = place_piece(alloc, at, line, kind, rest, size)?;
+        found.push(piece)?;
     }
     Ok(())
 }
 
-/// The tokens of a text, ends of lines among them, or nothing where some byte begins no piece of first form.
-pub fn scan(alloc: Global, text: &[u8]) -> Result<Option<Items<Token>>, NoMemory>
+/// The tokens of a text and the ends of its lines, or nothing where some byte begins no piece of first form.
+pub fn scan(alloc: Global, text: &[u8]) -> Result<Option<Vec<PlacedPiece>>, NoMemory>
     requires { length text.now + 2 < 2 ^ 32 }
-    ensures { IfOk result (λ found. found ≡ tokens_of text.now) }
+    ensures { IfOk result (λ found. option_map (λ pieces. pieces.items) found ≡ placed_pieces_of text.now) }
 {
-    let mut found = Items::new(alloc);
+    let mut found = Vec::new(alloc);
     let mut at: usize = 0;
     let mut line: u32 = 1;
     'pieces: while at < text.len() {
@@ -207,6 +209,46 @@ pub fn scan(alloc: Global, text: &[u8]) -> Result<Option<Items<Token>>, NoMemory
         at += size;
     }
     Ok(Some(found))
+}
+
+/// Which token a piece of that kind is, if it is one.
+fn token_kind(kind: PieceKind) -> Option<TokenKind>
+    ensures { result ≡ tokens.token_kind kind }
+{
+    match kind {
+        PieceKind::Word => Some(TokenKind::Word),
+        PieceKind::Whole => Some(TokenKind::Whole),
+        PieceKind::Mark => Some(TokenKind::Mark),
+        PieceKind::Blank | PieceKind::Comment | PieceKind::LineEnd => None,
+    }
+}
+
+/// The token that the piece is, if it is one.
+fn token_of(piece: PlacedPiece) -> Option<Token>
+    ensures { result ≡ tokens.token_of piece }
+{
+    let PlacedPiece {
+        kind,
+        range,
+        line,
+        value,
+    } = piece;
+    let kind = token_kind(kind)?;
+    Some(Token {
+        kind,
+        range,
+        line,
+        split: false,
+        value,
+    })
+}
+
+/// The tokens among the pieces.
+pub fn tokens_among(alloc: Global, pieces: Vec<PlacedPiece>) -> Result<Items<Token>, NoMemory>
+    ensures { IfOk result (λ found. found ≡ tokens_among pieces.items) }
+{
+    let found = pieces.into_iter().filter_map(|piece| token_of(piece));
+    Ok(Items::from_vec(found.collect(alloc)?))
 }
 
 /// No text can be read as pieces in two ways: the pieces that are computed are the only ones. Each has a byte at least,

@@ -8,5 +8,5 @@ use Rattle.free_scan.proofs.first_form.rows.rows.Goals as goal
 
 pub returns : goal.returns
 returns c =
-    let told = map_from_collect _ c.collect.ensures.ran (YieldsList-from_filter _ is_some_row (YieldsList-at c.filter.ensures.source (YieldsList-from_slice_split _ (λ token. is_line_end token.kind) c.args.tokens.now c.split.ensures.rest c.split.ensures.done c.split.ensures.closure (λ x r q k. search (rules, tests)))) c.filter.ensures.closure (λ x r q k. search (rules, tests))) in
-    (rw c.in_ok-collect.was at told) ∙ rows_are c.args.tokens.now
+    let told = map_from_collect _ c.collect.ensures.ran (YieldsList-from_filter _ is_some_row (YieldsList-at c.filter.ensures.source (YieldsList-from_slice_split _ (λ token. is_line_end token.kind) c.args.pieces.now c.split.ensures.rest c.split.ensures.done c.split.ensures.closure (λ x r q k. search (rules, tests)))) c.filter.ensures.closure (λ x r q k. search (rules, tests))) in
+    (rw c.in_ok-collect.was at told) ∙ rows_are c.args.pieces.now

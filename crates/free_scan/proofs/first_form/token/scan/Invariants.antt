@@ -1,5 +1,5 @@
 use Rattle.std.proofs.Common.{◌+◌, ◌-◌, ◌≤◌, length, drop}
-use Rattle.free_scan.specs.Tokens.{tokens_of}
+use Rattle.free_scan.specs.Tokens.{placed_pieces_of}
 use Rattle.free_scan.specs.Onward.{GoesOn}
 use Rattle.free_scan.proofs.first_form.token.scan.Given as goal
 
@@ -8,7 +8,7 @@ decreases-pieces l = length l.text - l.at
 
 abbrev pub invariant-pieces : goal.invariant-pieces
 invariant-pieces l = record {
-  goes : GoesOn (tokens_of l.text) l.found l.at l.line (drop l.at l.text);
+  goes : GoesOn (placed_pieces_of l.text) l.found.items l.at l.line (drop l.at l.text);
   within : l.at ≤ length l.text;
   line : l.line ≤ l.at + 1;
 }
