@@ -1,79 +1,73 @@
 -- From the reply that was carried out to what `apply rename` promises.
-use Rattle.std.proofs.Common.{◌≡◌, ◌≢◌, ℕ, ◌+◌, ◌≤◌, ◌<◌, List, [], ◌++◌, length, take, drop, Option, None, Some, refl, sym, ap, subst, ◌∙◌, arith, inl, inr}
+use Rattle.std.proofs.Common.{◌≡◌, ◌≢◌, ℕ, ◌≤◌, List, map, Option, None, Some, refl, sym, ap, subst, ◌∙◌, arith, inl, inr}
 use Rattle.std.specs.Prelude.{◌⊎◌, IfSome, unwrap_or}
 use Rattle.std.specs.Option.{option_map}
-use Rattle.std.proofs.lemmas.List.{append-nil, length-take, take_all}
+use Rattle.std.proofs.lemmas.List.{append-nil}
 use Rattle.ftn_base.specs.Files.{File, IsInOrder, project, with_file}
 use Rattle.ftn_base.specs.declared.status.Status.{Status}
 use Rattle.ftn_base.specs.declared.status.Status.TheVariants as status
-use Rattle.free_scan.specs.FirstForm.{IsProgramText}
 use Rattle.free_scan.specs.Tokens.{tokens_of}
-use Rattle.free_scan.specs.declared.first_form.program.Program.{Program}
 use Rattle.ftn_tree.specs.declared.token.Token.{Token}
 use Rattle.rename_ref.specs.Conditions.{judged}
-use Rattle.rename_ref.specs.Keeping.{Keeps, RenameKeeps}
-use Rattle.rename_ref.specs.declared.judgement.Cond.{Cond}
+use Rattle.rename_ref.specs.Keeping.{RenameKeeps}
 use Rattle.rename_ref.specs.declared.judgement.Judgement.{Judgement}
 use Rattle.rename_ref.specs.declared.judgement.Judgement.TheVariants.{Refuse, Accept}
 use Rattle.rename_ref.specs.declared.rename.Rename.{Rename}
-use Rattle.store_io.specs.Counts.{Rose}
-use Rattle.store_io.specs.Told.{MayPut, Takes, TakesFront}
+use Rattle.store_io.specs.Told.{MayPut, TakesFront}
+use Rattle.ftn_tool.proofs.FirstFault.{not_all_read}
 use Rattle.ftn_tool.proofs.NewProject.{new_project}
+use Rattle.ftn_tool.proofs.Sizes.{same_limit, whole}
 use Rattle.ftn_tool.proofs.Writing.{rose_since}
 use Rattle.ftn_tool.specs.declared.reply.Reply.{Reply}
-use Rattle.ftn_tool.specs.Answers.{Answered, Applies, CarriedOut, FailedAtLine, FailedAtPut, Forced, HasRisen, IsAccepted, KeepsFiles, Says, Seen, WasRefused, see}
-use Rattle.ftn_tool.specs.Projects.{front, front_of}
-use Rattle.ftn_tool.specs.Replies.{Carries, CarriesPut, IsDue, Put, Said, reply_of}
-use Rattle.ftn_tool.specs.Verdicts.{Verdict, judgement, not_built, Gives, IsFirstForm, IsVerdict, applying_line, judgement_status, line_of, put_of, sole, status_of, store_fault_line, text_limit}
+use Rattle.ftn_tool.specs.Answers.{Answered, Applies, Forced, HasRisen, IsAccepted, KeepsFiles, Says, Seen, see}
+use Rattle.ftn_tool.specs.declared.limit.Limit.{Limit}
+use Rattle.ftn_tool.specs.Limits.{limit_of}
+use Rattle.ftn_tool.specs.Projects.{front_of}
+use Rattle.ftn_tool.specs.Replies.{Carries, CarriesPut, IsDue, Put, reply_of}
+use Rattle.ftn_tool.specs.Verdicts.{Verdict, broken, judgement, limited, not_built, Gives, IsVerdict, applying_line, judgement_status, limit_line, status_of, store_fault_line}
 
--- ---- the front of a file stands for the file
+-- ---- the fronts of files stand for the files
 
-front_is : (text : List ℕ) → length text ≤ text_limit → front text ≡ text
-front_is text small = take_all (text_limit + 1) text (omega arith)
+pub whole_verdict : (order : Rename) (files : List File) (verdict : Verdict) → Gives order (map front_of files) verdict → Gives order files verdict
+whole_verdict order files (limited which) gives = sym (same_limit files) ∙ gives
+whole_verdict order files (broken name text kind at) gives =
+    subst (λ (fs : List File). Gives order fs (broken name text kind at)) (whole files (sym (same_limit files) ∙ gives.0)) gives
+whole_verdict order files not_built gives =
+    subst (λ (fs : List File). Gives order fs not_built) (whole files (sym (same_limit files) ∙ gives.0.0)) gives
+whole_verdict order files (judgement name text tokens judged_so) gives =
+    subst (λ (fs : List File). Gives order fs (judgement name text tokens judged_so)) (whole files (sym (same_limit files) ∙ gives.0.0)) gives
 
-front_small : (text : List ℕ) → length (front text) ≤ text_limit → front text ≡ text
-front_small text small = front_is text (omega (arith, length-take (text_limit + 1) text))
+-- ---- files give one verdict
 
 same_pair : (n t name text : List ℕ) → ◌≡◌ {A = Option File} (Some (n, t)) (Some (name, text)) → (n ≡ name) × (t ≡ text)
 same_pair n t name text e = (ap (λ (file : Option File). (unwrap_or file (name, text)).0) e, ap (λ (file : Option File). (unwrap_or file (name, text)).1) e)
-
-pair_of : (n t name text : List ℕ) → n ≡ name → t ≡ text → ◌≡◌ {A = Option File} (Some (n, t)) (Some (name, text))
-pair_of n t name text e f = ap (λ (x : List ℕ). Some (x, t)) e ∙ ap (λ (x : List ℕ). Some (name, x)) f
-
-no_file : (name text : List ℕ) → ◌≡◌ {A = Option File} None (Some (name, text)) → ⊥
-no_file name text e = cc
-
--- a front that is in first form is the whole file
-same_form : (file : Option File) (name text : List ℕ) (program : Program) → IsFirstForm (option_map front_of file) name text program → IsFirstForm file name text program
-same_form None name text program form = absurd (no_file name text form.only)
-same_form (Some file) name text program form =
-    let parts = same_pair file.0 (front file.1) name text form.only in
-    let small : length (front file.1) ≤ text_limit = subst (λ (x : List ℕ). length x ≤ text_limit) (sym parts.1) form.size in
-    record { only = pair_of file.0 file.1 name text parts.0 (sym (front_small file.1 small) ∙ parts.1); size = form.size; spells = form.spells }
-
--- a file in first form is its own front
-form_of_front : (file : Option File) (name text : List ℕ) (program : Program) → IsFirstForm file name text program → IsFirstForm (option_map front_of file) name text program
-form_of_front file name text program form =
-    record { only = ap (λ (f : Option File). option_map front_of f) form.only ∙ ap (λ (t : List ℕ). Some (name, t)) (front_is text form.size); size = form.size; spells = form.spells }
-
--- so the verdict is the same
-whole_verdict : (order : Rename) (file : Option File) (verdict : Verdict) → Gives order (option_map front_of file) verdict → Gives order file verdict
-whole_verdict order file not_built gives = λ name text program form. gives name text program (form_of_front file name text program form)
-whole_verdict order file (judgement name text tokens judged_so) gives = (gives.0, (same_form file name text gives.0 gives.1.0, gives.1.1, gives.1.2))
-
--- ---- a file gives one verdict
 
 one_judgement : (scan : List ℕ → Option (List Token)) (judge : List ℕ → List ℕ → List Token → Judgement) (n t name text : List ℕ) (some tokens : List Token) (one other : Judgement)
     → n ≡ name → t ≡ text → scan t ≡ Some some → scan text ≡ Some tokens → judge n t some ≡ one → judge name text tokens ≡ other → one ≡ other
 one_judgement scan judge n t name text some tokens one other e f g h i j = cc
 
-same_status : (order : Rename) (file : Option File) (verdict other : Verdict) → Gives order file verdict → Gives order file other → status_of verdict ≡ status_of other
-same_status order file not_built not_built gives also = refl
-same_status order file not_built (judgement name text tokens judged_so) gives also = absurd (gives name text also.0 also.1.0)
-same_status order file (judgement n t some one) not_built gives also = absurd (also n t gives.0 gives.1.0)
-same_status order file (judgement n t some one) (judgement name text tokens other) gives also =
-    let parts = same_pair n t name text (sym gives.1.0.only ∙ also.1.0.only) in
-    ap judgement_status (one_judgement tokens_of (judged order) n t name text some tokens one other parts.0 parts.1 gives.1.1 also.1.1 gives.1.2 also.1.2)
+limit_or_none : {A : Type 0} (limit : Option Limit) (which : Limit) → limit ≡ Some which → limit ≡ None → A
+limit_or_none limit which some none = absurd cc
+
+same_status : (order : Rename) (files : List File) (verdict other : Verdict) → Gives order files verdict → Gives order files other → status_of verdict ≡ status_of other
+same_status order files (limited which) (limited some) gives also = refl
+same_status order files (limited which) (broken name text kind at) gives also = limit_or_none (limit_of files) which gives also.0
+same_status order files (limited which) not_built gives also = limit_or_none (limit_of files) which gives also.0.0
+same_status order files (limited which) (judgement name text tokens judged_so) gives also = limit_or_none (limit_of files) which gives also.0.0
+same_status order files (broken n t k p) (limited some) gives also = limit_or_none (limit_of files) some also gives.0
+same_status order files (broken n t k p) (broken name text kind at) gives also = refl
+same_status order files (broken n t k p) not_built gives also = refl
+same_status order files (broken n t k p) (judgement name text tokens judged_so) gives also = absurd (not_all_read files n t k p gives.1 also.0.1)
+same_status order files not_built (limited some) gives also = limit_or_none (limit_of files) some also gives.0.0
+same_status order files not_built (broken name text kind at) gives also = refl
+same_status order files not_built not_built gives also = refl
+same_status order files not_built (judgement name text tokens judged_so) gives also = absurd (gives.1 name text also.1.0 also.1.1.0)
+same_status order files (judgement n t some one) (limited which) gives also = limit_or_none (limit_of files) which also gives.0.0
+same_status order files (judgement n t some one) (broken name text kind at) gives also = absurd (not_all_read files name text kind at also.1 gives.0.1)
+same_status order files (judgement n t some one) not_built gives also = absurd (also.1 n t gives.1.0 gives.1.1.0)
+same_status order files (judgement n t some one) (judgement name text tokens other) gives also =
+    let parts = same_pair n t name text (sym gives.1.1.0.only ∙ also.1.1.0.only) in
+    ap judgement_status (one_judgement tokens_of (judged order) n t name text some tokens one other parts.0 parts.1 gives.1.1.1 also.1.1.1 gives.1.1.2 also.1.1.2)
 
 -- ---- what the reply's being carried out says
 
@@ -99,7 +93,7 @@ carries_since reply (Some file) files mid after taken took s m e k l w v status.
 module _ (law : RenameKeeps) (order : Rename) (files : List File) (seen : Seen) (told : seen.files.before ≡ Some files) (in_order : IsInOrder files) where
   accepted : (name text : List ℕ) (tokens : List Token) (new_text : List ℕ) → IsVerdict order files (judgement name text tokens (Accept new_text)) → IsAccepted order files name text tokens new_text
   accepted name text tokens new_text gives =
-      record { verdict = gives; program = gives.0; spells = gives.1.0.spells; keeps = law order name text tokens gives.0 new_text gives.1.1 gives.1.0.spells gives.1.2 }
+      record { verdict = gives; program = gives.1.0; spells = gives.1.1.0.spells; keeps = law order name text tokens gives.1.0 new_text gives.1.1.1 gives.1.1.0.spells gives.1.1.2 }
 
   put_files : (name new_text : List ℕ) → seen.files.after ≡ option_map (with_file name new_text) seen.files.before → seen.files.after ≡ Some (with_file name new_text files)
   put_files name new_text put = put ∙ ap (λ (all : Option (List File)). option_map (with_file name new_text) all) told
@@ -109,7 +103,7 @@ module _ (law : RenameKeeps) (order : Rename) (files : List File) (seen : Seen) 
   may_put name new_text (inr put) = inr (put_files name new_text put)
 
   put_answered : (name text : List ℕ) (tokens : List Token) (new_text : List ℕ) (answer : Status) → IsVerdict order files (judgement name text tokens (Accept new_text)) → Put applying_line name new_text seen answer → Answered order files seen answer
-  put_answered name text tokens new_text status.Done gives put = record { name = name; text = text; tokens = tokens; new_text = new_text; accepted = accepted name text tokens new_text gives; files_after = put_files name new_text put.0; new_project = new_project files name text new_text in_order gives.1.0.only; said = put.1 }
+  put_answered name text tokens new_text status.Done gives put = record { name = name; text = text; tokens = tokens; new_text = new_text; accepted = accepted name text tokens new_text gives; files_after = put_files name new_text put.0; new_project = new_project files name text new_text in_order gives.1.1.0.only; said = put.1 }
   put_answered name text tokens new_text status.StoreFault gives put = inr (record { name = name; text = text; tokens = tokens; new_text = new_text; accepted = accepted name text tokens new_text gives; files_after = may_put name new_text put.1; said = put.2 })
   put_answered name text tokens new_text status.OutputFault gives put = record { name = name; text = text; tokens = tokens; new_text = new_text; accepted = accepted name text tokens new_text gives; said = put.2 }
   put_answered name text tokens new_text status.NoMemory gives put = put.1
@@ -123,7 +117,11 @@ module _ (law : RenameKeeps) (order : Rename) (files : List File) (seen : Seen) 
   put_answered name text tokens new_text status.Pending gives put = absurd put
 
   answered : (verdict : Verdict) (answer : Status) → IsVerdict order files verdict → Carries (reply_of verdict) seen answer → Answered order files seen answer
-  answered not_built answer gives carried = subst (λ (a : Status). Answered order files seen a) (sym carried.answer_is) (gives, carried.said)
+  answered (limited which) answer gives carried =
+      subst (λ (a : Status). Answered order files seen a) (sym carried.answer_is) (record { which = which; verdict = gives; said = carried.said })
+  answered (broken name text kind at) answer gives carried =
+      subst (λ (a : Status). Answered order files seen a) (sym carried.answer_is) (inl (record { name = name; text = text; kind = kind; at = at; verdict = gives; said = carried.said }))
+  answered not_built answer gives carried = subst (λ (a : Status). Answered order files seen a) (sym carried.answer_is) (inr (gives, carried.said))
   answered (judgement name text tokens (Refuse cond at)) answer gives carried =
       subst (λ (a : Status). Answered order files seen a) (sym carried.answer_is) (record { name = name; text = text; tokens = tokens; cond = cond; at = at; verdict = gives; said = carried.said })
   answered (judgement name text tokens (Accept new_text)) answer gives carried = put_answered name text tokens new_text answer gives carried
@@ -145,6 +143,8 @@ module _ (seen : Seen) where
 
   -- the answer is the verdict's, or one that a device forced
   due_or_forced : (verdict : Verdict) (answer : Status) → Carries (reply_of verdict) seen answer → (answer ≡ status_of verdict) ⊎ Forced seen answer
+  due_or_forced (limited which) answer carried = inl carried.answer_is
+  due_or_forced (broken name text kind at) answer carried = inl carried.answer_is
   due_or_forced not_built answer carried = inl carried.answer_is
   due_or_forced (judgement name text tokens (Refuse cond at)) answer carried = inl carried.answer_is
   due_or_forced (judgement name text tokens (Accept new_text)) answer carried = put_due applying_line name new_text answer carried
@@ -164,18 +164,24 @@ module _ (seen : Seen) where
   put_kept line name new_text status.Pending put other also = absurd put
 
   kept : (verdict : Verdict) (answer : Status) → Carries (reply_of verdict) seen answer → answer ≢ status.Done → answer ≢ status.StoreFault → KeepsFiles seen
+  kept (limited which) answer carried other also = carried.files
+  kept (broken name text kind at) answer carried other also = carried.files
   kept not_built answer carried other also = carried.files
   kept (judgement name text tokens (Refuse cond at)) answer carried other also = carried.files
   kept (judgement name text tokens (Accept new_text)) answer carried other also = put_kept applying_line name new_text answer carried other also
 
   -- a fault is forced
   forced_store : (verdict : Verdict) (answer : Status) → (answer ≡ status_of verdict) ⊎ Forced seen answer → answer ≡ status.StoreFault → HasRisen seen.store
+  forced_store (limited which) answer (inl is) fault = absurd cc
+  forced_store (broken name text kind at) answer (inl is) fault = absurd cc
   forced_store not_built answer (inl is) fault = absurd cc
   forced_store (judgement name text tokens (Refuse cond at)) answer (inl is) fault = absurd cc
   forced_store (judgement name text tokens (Accept new_text)) answer (inl is) fault = absurd cc
   forced_store verdict answer (inr forced) fault = subst (λ (a : Status). Forced seen a) fault forced
 
   forced_sink : (verdict : Verdict) (answer : Status) → (answer ≡ status_of verdict) ⊎ Forced seen answer → answer ≡ status.OutputFault → HasRisen seen.sink
+  forced_sink (limited which) answer (inl is) fault = absurd cc
+  forced_sink (broken name text kind at) answer (inl is) fault = absurd cc
   forced_sink not_built answer (inl is) fault = absurd cc
   forced_sink (judgement name text tokens (Refuse cond at)) answer (inl is) fault = absurd cc
   forced_sink (judgement name text tokens (Accept new_text)) answer (inl is) fault = absurd cc
@@ -192,7 +198,7 @@ always (Some a) Q f = f a
 
 same_due : (order : Rename) (files : List File) (seen : Seen) (verdict other : Verdict) (answer : Status) → IsVerdict order files verdict → IsVerdict order files other
     → (answer ≡ status_of verdict) ⊎ Forced seen answer → (answer ≡ status_of other) ⊎ Forced seen answer
-same_due order files seen verdict other answer gives also (inl is) = inl (is ∙ same_status order (sole (project files)) verdict other gives also)
+same_due order files seen verdict other answer gives also (inl is) = inl (is ∙ same_status order (project files) verdict other gives also)
 same_due order files seen verdict other answer gives also (inr forced) = inr forced
 
 both_told : {A : Type 0} (told : Option A) (P Q : A → Type 0) → IfSome told P → IfSome told Q → IfSome told (λ a. P a × Q a)
@@ -200,24 +206,24 @@ both_told None P Q p q = tt
 both_told (Some a) P Q p q = (p, q)
 
 -- a reply that was carried out is what is promised
-pub applies : (law : RenameKeeps) (order : Rename) (seen : Seen) (answer : Status) (found : Option File) (verdict : Verdict) → Gives order found verdict
-    → IfSome seen.files.before (λ files. found ≡ option_map front_of (sole (project files))) → IfSome seen.files.before IsInOrder → Carries (reply_of verdict) seen answer → Applies order seen answer
+pub applies : (law : RenameKeeps) (order : Rename) (seen : Seen) (answer : Status) (found : List File) (verdict : Verdict) → Gives order found verdict
+    → IfSome seen.files.before (λ files. found ≡ map front_of (project files)) → IfSome seen.files.before IsInOrder → Carries (reply_of verdict) seen answer → Applies order seen answer
 applies law order seen answer found verdict gives is in_order carried =
-    let P : List File → Type 0 = λ files. found ≡ option_map front_of (sole (project files)) in
-    let whole = λ (files : List File) (front_is_found : found ≡ option_map front_of (sole (project files))). whole_verdict order (sole (project files)) verdict (subst (λ (file : Option File). Gives order file verdict) front_is_found gives) in
+    let P : List File → Type 0 = λ files. found ≡ map front_of (project files) in
+    let all = λ (files : List File) (fronts_are_found : found ≡ map front_of (project files)). whole_verdict order (project files) verdict (subst (λ (fs : List File). Gives order fs verdict) fronts_are_found gives) in
     let due = due_or_forced seen verdict answer carried in
     record {
-      answered = at_told seen.files.before (λ files. P files × IsInOrder files) (λ files. Answered order files seen answer) (λ files told known. answered law order files seen told known.1 verdict answer (whole files known.0) carried) (both_told seen.files.before P IsInOrder is in_order);
+      answered = at_told seen.files.before (λ files. P files × IsInOrder files) (λ files. Answered order files seen answer) (λ files told known. answered law order files seen told known.1 verdict answer (all files known.0) carried) (both_told seen.files.before P IsInOrder is in_order);
       due = at_told seen.files.before P (λ files. (other : Verdict) → IsVerdict order files other → (answer ≡ status_of other) ⊎ Forced seen answer)
-          (λ files told front_is_found other also. same_due order files seen verdict other answer (whole files front_is_found) also due) is;
+          (λ files told fronts_are_found other also. same_due order files seen verdict other answer (all files fronts_are_found) also due) is;
       before = kept seen verdict answer carried;
       store_fault = forced_store seen verdict answer due;
       output_fault = forced_sink seen verdict answer due;
     }
 
 -- the same for a reply that is due
-pub applies_reply : (law : RenameKeeps) (order : Rename) (seen : Seen) (answer : Status) (found : Option File) (reply : Reply) → IsDue order found reply
-    → IfSome seen.files.before (λ files. found ≡ option_map front_of (sole (project files))) → IfSome seen.files.before IsInOrder → Carries reply seen answer → Applies order seen answer
+pub applies_reply : (law : RenameKeeps) (order : Rename) (seen : Seen) (answer : Status) (found : List File) (reply : Reply) → IsDue order found reply
+    → IfSome seen.files.before (λ files. found ≡ map front_of (project files)) → IfSome seen.files.before IsInOrder → Carries reply seen answer → Applies order seen answer
 applies_reply law order seen answer found reply due is in_order carried =
     applies law order seen answer found due.0 due.1.0 is in_order (subst (λ (r : Reply). Carries r seen answer) due.1.1 carried)
 
@@ -231,6 +237,21 @@ applies_store_fault order seen same risen said = record {
   store_fault = λ e. risen;
   output_fault = λ e. absurd cc;
 }
+
+pub applies_limit : (order : Rename) (seen : Seen) (which : Limit) → IfSome seen.files.before (λ files. limit_of (map front_of (project files)) ≡ Some which) → KeepsFiles seen
+    → (written : List ℕ) → written ≡ limit_line which → Says seen written → Applies order seen status.Limit
+applies_limit order seen which past same written is_line all_said =
+    let said : Says seen (limit_line which) = subst (λ (l : List ℕ). Says seen l) is_line all_said in
+    let P : List File → Type 0 = λ files. limit_of (map front_of (project files)) ≡ Some which in
+    let gives = λ (files : List File) (is : limit_of (map front_of (project files)) ≡ Some which). sym (same_limit (project files)) ∙ is in
+    record {
+      answered = at_told seen.files.before P (λ files. Answered order files seen status.Limit) (λ files told is. record { which = which; verdict = gives files is; said = said }) past;
+      due = at_told seen.files.before P (λ files. (verdict : Verdict) → IsVerdict order files verdict → (status.Limit ≡ status_of verdict) ⊎ Forced seen status.Limit)
+          (λ files told is verdict also. inl (same_status order (project files) (limited which) verdict (gives files is) also)) past;
+      before = λ other also. same;
+      store_fault = λ e. absurd cc;
+      output_fault = λ e. absurd cc;
+    }
 
 takes_nothing : (text : List ℕ) (before after : Option (List ℕ)) → after ≡ before → TakesFront text before after
 takes_nothing text None after same = (0, (omega arith, same))

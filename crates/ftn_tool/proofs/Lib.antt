@@ -1,6 +1,8 @@
 pub mod Numbers
 pub mod Positions
-pub mod OneFile
+pub mod Sizes
+pub mod ProjectFiles
+pub mod FirstFault
 pub mod Due
 pub mod Writing
 pub mod NewProject

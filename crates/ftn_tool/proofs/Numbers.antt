@@ -1,8 +1,7 @@
 -- The value of a row of digits only grows.
-use Rattle.std.proofs.Common.{◌≡◌, ℕ, ◌+◌, ◌*◌, ◌-◌, ◌≤◌, ◌<◌, ◌^◌, List, [], ◌∷◌, refl, arith, Option, None}
+use Rattle.std.proofs.Common.{◌≡◌, ℕ, ◌+◌, ◌*◌, ◌-◌, ◌≤◌, ◌^◌, List, [], ◌∷◌, refl, arith, None}
 use Rattle.std.specs.Prelude.{fold}
 use Rattle.std.proofs.lemmas.Bool.{le-ltb}
-use Rattle.free_scan.specs.Spelling.{number_of}
 use Rattle.ftn_tool.specs.Reading.{below}
 
 abbrev pub add_digit : ℕ → ℕ → ℕ

@@ -1,7 +1,6 @@
 -- Reading words one after the other finds the command, or the least position with which no command begins.
-use Rattle.std.proofs.Common.{◌≡◌, ℕ, ◌+◌, Bool, true, false, cond, List, [], ◌∷◌, Result, Ok, Err, refl, arith}
+use Rattle.std.proofs.Common.{◌≡◌, Bool, true, false, List, [], ◌∷◌, refl, arith}
 use Rattle.std.specs.Prelude.{codes}
-use Rattle.ftn_tool.specs.declared.command.Command.{Command}
 use Rattle.ftn_tool.specs.Words.{Word, command_of, is_text, is_file_word, is_count_word, is_plain_word}
 use Rattle.ftn_tool.specs.Reading.{read}
 

@@ -1,5 +1,5 @@
 -- From the answer of a command to what is promised for the words.
-use Rattle.std.proofs.Common.{◌≡◌, ℕ, sym, subst, refl, inl, inr}
+use Rattle.std.proofs.Common.{◌≡◌, ℕ, sym, subst, refl, inr}
 use Rattle.std.specs.Prelude.{Result, Ok, Err}
 use Rattle.ftn_base.specs.declared.status.Status.{Status}
 use Rattle.ftn_base.specs.declared.status.Status.TheVariants as status

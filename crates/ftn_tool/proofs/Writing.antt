@@ -1,8 +1,6 @@
 -- Texts that a sink takes one after the other, and counts that rise.
-use Rattle.std.proofs.Common.{◌≡◌, ℕ, ◌+◌, ◌-◌, ◌^◌, ◌≤◌, ◌<◌, List, ◌++◌, length, take, Option, None, Some, refl, sym, ap, ◌∙◌, append_assoc, arith, length-append}
+use Rattle.std.proofs.Common.{ℕ, ◌+◌, ◌≤◌, List, ◌++◌, length, take, Option, arith, length-append}
 use Rattle.std.proofs.Math.Seq.{take-append-add}
-use Rattle.std.specs.Prelude.{min}
-use Rattle.std.specs.Option.{option_map}
 use Rattle.store_io.specs.Counts.{Rose}
 use Rattle.store_io.specs.Told.{Takes, TakesFront}
 use Rattle.store_io.proofs.Taking.{takes_both}

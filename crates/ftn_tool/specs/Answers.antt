@@ -1,6 +1,7 @@
 -- What a command line may answer, and what it leaves.
 use Rattle.std.specs.Prelude.{◌≡◌, ◌≢◌, ◌⊎◌, ℕ, List, [], ◌∷◌, ◌++◌, Option, Some, Result, Ok, Err, IfSome}
 use Rattle.ftn_base.specs.Files.{File, project, with_file}
+use Rattle.ftn_base.specs.declared.fault.FaultKind.{FaultKind}
 use Rattle.ftn_base.specs.declared.status.Status.{Status}
 use Rattle.ftn_base.specs.declared.status.Status.TheVariants as status
 use Rattle.free_scan.specs.FirstForm.{IsProgramText}
@@ -15,7 +16,8 @@ use Rattle.store_io.specs.Told.{Takes, TakesFront}
 use Rattle.ftn_tool.specs.declared.command.Command.{Command}
 use Rattle.ftn_tool.specs.declared.command.Command.TheVariants.{Apply}
 use Rattle.ftn_tool.specs.declared.command.Order.TheVariants as orders
-use Rattle.ftn_tool.specs.Verdicts.{Verdict, judgement, not_built, IsVerdict, status_of, refused_line, not_built_line, applying_line, store_fault_line, bad_word_line}
+use Rattle.ftn_tool.specs.declared.limit.Limit.{Limit}
+use Rattle.ftn_tool.specs.Verdicts.{Verdict, broken, judgement, limited, not_built, IsVerdict, status_of, refused_line, fault_line, limit_line, not_built_line, applying_line, store_fault_line, bad_word_line}
 
 -- a value before a call and after it
 pub record Change (A : Type 0) : Type 0 where
@@ -101,6 +103,21 @@ pub record WasRefused (order : Rename) (files : List File) (seen : Seen) : Type 
   pub verdict : IsVerdict order files (judgement name text tokens (Refuse cond at))
   pub said : Says seen (refused_line name text cond at)
 
+-- a file has a fault
+pub record WasBroken (order : Rename) (files : List File) (seen : Seen) : Type 0 where
+  pub name : List ℕ
+  pub text : List ℕ
+  pub kind : FaultKind
+  pub at : ℕ
+  pub verdict : IsVerdict order files (broken name text kind at)
+  pub said : Says seen (fault_line name text kind at)
+
+-- the project passes a limit
+pub record WasLimited (order : Rename) (files : List File) (seen : Seen) : Type 0 where
+  pub which : Limit
+  pub verdict : IsVerdict order files (limited which)
+  pub said : Says seen (limit_line which)
+
 -- the store failed as the new text was put
 pub record FailedAtPut (order : Rename) (files : List File) (seen : Seen) : Type 0 where
   pub name : List ℕ
@@ -124,12 +141,12 @@ pub record FailedAtLine (order : Rename) (files : List File) (seen : Seen) : Typ
 abbrev pub Answered : Rename → List File → Seen → Status → Type 0
 Answered order files seen status.Done = CarriedOut order files seen
 Answered order files seen status.Refused = WasRefused order files seen
-Answered order files seen status.BadProject = IsVerdict order files not_built × Says seen not_built_line
+Answered order files seen status.BadProject = WasBroken order files seen ⊎ (IsVerdict order files not_built × Says seen not_built_line)
+Answered order files seen status.Limit = WasLimited order files seen
 Answered order files seen status.StoreFault = (KeepsFiles seen × Says seen store_fault_line) ⊎ FailedAtPut order files seen
 Answered order files seen status.OutputFault = FailedAtLine order files seen
 Answered order files seen status.NoMemory = TakesFront applying_line seen.taken.before seen.taken.after
 Answered order files seen status.BadWords = ⊥
-Answered order files seen status.Limit = ⊥
 Answered order files seen status.InputFault = ⊥
 Answered order files seen status.ProgramFaulted = ⊥
 Answered order files seen status.StepsSpent = ⊥

@@ -1,5 +1,7 @@
 pub mod Words
 pub mod Reading
+pub mod Limits
+pub mod Faults
 pub mod Verdicts
 pub mod Projects
 pub mod Answers

@@ -1,6 +1,6 @@
 -- Reading words from the first on, as the code does. This serves the proof that the code finds the command
 -- and the position that `Words` defines.
-use Rattle.std.specs.Prelude.{◌≡◌, ℕ, ◌+◌, ◌^◌, nat_lt, Bool, List, [], ◌∷◌, codes, Option, Some, None, Result, Ok, Err, if◌then◌else◌, slice_get}
+use Rattle.std.specs.Prelude.{◌≡◌, ℕ, ◌+◌, ◌^◌, nat_lt, Bool, List, [], codes, Option, Some, None, Result, Ok, Err, if◌then◌else◌, slice_get}
 use Rattle.free_scan.specs.Spelling.{number_of}
 use Rattle.ftn_tool.specs.declared.command.Command.{Command}
 use Rattle.ftn_tool.specs.declared.command.Command.TheVariants.{Apply}

@@ -1,5 +1,5 @@
 -- Replies: an answer with its line, and the file that is put before it stands.
-use Rattle.std.specs.Prelude.{◌≡◌, ◌≢◌, ◌⊎◌, ℕ, List, ◌++◌, Option, Some, None}
+use Rattle.std.specs.Prelude.{◌≡◌, ℕ, List, ◌++◌, Option, Some, None}
 use Rattle.std.specs.Option.{option_map}
 use Rattle.ftn_base.specs.Files.{File, with_file}
 use Rattle.ftn_base.specs.declared.status.Status.{Status}
@@ -10,20 +10,34 @@ use Rattle.store_io.specs.Counts.{Rose}
 use Rattle.store_io.specs.Told.{MayPut, Takes, TakesFront}
 use Rattle.ftn_tool.specs.declared.reply.Reply.{Reply}
 use Rattle.ftn_tool.specs.Answers.{Seen, HasRisen, KeepsFiles, Says}
-use Rattle.ftn_tool.specs.Verdicts.{Verdict, Gives, status_of, line_of, put_of, judgement_status, judgement_line, judgement_put, not_built_line, store_fault_line}
+use Rattle.ftn_tool.specs.Verdicts.{Verdict, broken, judgement, limited, not_built, Gives, IsJudged, IsNotBuilt, status_of, line_of, put_of, judgement_status, judgement_line, judgement_put, not_built_line, store_fault_line}
 
 abbrev pub reply_of : Verdict → Reply
 reply_of verdict = record { status = status_of verdict; line = line_of verdict; put = put_of verdict }
+
+abbrev pub fault_reply : List ℕ → Reply
+fault_reply line = record { status = status.BadProject; line = line; put = None }
 
 abbrev pub not_built_reply : Reply
 not_built_reply = record { status = status.BadProject; line = not_built_line; put = None }
 
 abbrev pub judgement_reply : List ℕ → List ℕ → Judgement → Reply
-judgement_reply name text judgement = record { status = judgement_status judgement; line = judgement_line name text judgement; put = judgement_put name judgement }
+judgement_reply name text judged_so = record { status = judgement_status judged_so; line = judgement_line name text judged_so; put = judgement_put name judged_so }
 
--- the reply to the verdict that this file gives
-abbrev pub IsDue : Rename → Option File → Reply → Type 0
-IsDue order file reply = (verdict : Verdict) × (Gives order file verdict × (reply ≡ reply_of verdict))
+-- the reply to the verdict that these files give
+abbrev pub IsDue : Rename → List File → Reply → Type 0
+IsDue order files reply = (verdict : Verdict) × (Gives order files verdict × (reply ≡ reply_of verdict))
+
+-- what the one file of a project gives where it is read
+abbrev pub GivesForm : Rename → Option File → Verdict → Type 0
+GivesForm order file (limited which) = ⊥
+GivesForm order file (broken name text kind at) = ⊥
+GivesForm order file not_built = IsNotBuilt file
+GivesForm order file (judgement name text tokens judged_so) = IsJudged order file name text tokens judged_so
+
+-- the reply to the verdict that it gives
+abbrev pub IsFirstFormReply : Rename → Option File → Reply → Type 0
+IsFirstFormReply order file reply = (verdict : Verdict) × (GivesForm order file verdict × (reply ≡ reply_of verdict))
 
 -- the sink failed, and its count rose; or it wanted memory
 abbrev pub IsSinkFault : ℕ → ℕ → Status → Type 0

@@ -1,10 +1,11 @@
 -- What is due for an order to rename in a project: the answer, the line and the file that is put.
-use Rattle.std.specs.Prelude.{◌≡◌, ℕ, ◌≤◌, ◌+◌, List, [], ◌∷◌, ◌++◌, length, take, codes, Option, Some, None}
+use Rattle.std.specs.Prelude.{◌≡◌, ℕ, ◌≤◌, List, [], ◌∷◌, ◌++◌, length, codes, Option, Some, None}
 use Rattle.std.specs.Fmt.{decimal}
-use Rattle.std.specs.Option.{option_map}
+use Rattle.std.specs.List.{All}
 use Rattle.ftn_base.specs.Files.{File, project}
 use Rattle.ftn_base.specs.FaultNames.{name_of as fault_name}
 use Rattle.ftn_base.specs.Places.{place_of}
+use Rattle.ftn_base.specs.declared.fault.FaultKind.{FaultKind}
 use Rattle.ftn_base.specs.declared.fault.FaultKind.TheVariants.{NotBuilt}
 use Rattle.ftn_base.specs.declared.status.Status.{Status}
 use Rattle.ftn_base.specs.declared.status.Status.TheVariants as status
@@ -17,6 +18,10 @@ use Rattle.rename_ref.specs.declared.judgement.Cond.{Cond}
 use Rattle.rename_ref.specs.declared.judgement.Judgement.{Judgement}
 use Rattle.rename_ref.specs.declared.judgement.Judgement.TheVariants.{Refuse, Accept}
 use Rattle.rename_ref.specs.declared.rename.Rename.{Rename}
+use Rattle.ftn_tool.specs.declared.limit.Limit.{Limit}
+use Rattle.ftn_tool.specs.declared.limit.Limit.TheVariants as limits
+use Rattle.ftn_tool.specs.Faults.{HasTree, IsFirstFault}
+use Rattle.ftn_tool.specs.Limits.{limit_of}
 
 -- how many bytes the text of a project in first form has at the most
 abbrev pub text_limit : ℕ
@@ -34,26 +39,45 @@ pub record IsFirstForm (file : Option File) (name text : List ℕ) (program : Pr
   pub size : length text ≤ text_limit
   pub spells : IsProgramText text program
 
--- what becomes of an order: the project isn't in first form, or it is, with this file, and the order is judged so
+-- what becomes of an order: the project passes that limit; that file has that fault first, at that byte; the project isn't in first
+-- form; or it is, with this file, and the order is judged so
 pub data Verdict : Type 0 where
+  limited : Limit → Verdict
+  broken : List ℕ → List ℕ → FaultKind → ℕ → Verdict
   not_built : Verdict
   judgement : List ℕ → List ℕ → List Token → Judgement → Verdict
 
--- the project's one file gives this verdict
-abbrev pub Gives : Rename → Option File → Verdict → Type 0
-Gives order file not_built = (name text : List ℕ) (program : Program) → IsFirstForm file name text program → ⊥
-Gives order file (judgement name text tokens judged_so) =
+-- the project passes no limit, and all its files are read
+abbrev pub IsRead : List File → Type 0
+IsRead files = (limit_of files ≡ None) × All HasTree files
+
+-- the one file of a project is not in first form, or there is none
+abbrev pub IsNotBuilt : Option File → Type 0
+IsNotBuilt file = (name text : List ℕ) (program : Program) → IsFirstForm file name text program → ⊥
+
+-- the one file of a project is in first form, with these tokens, and the order is judged so
+abbrev pub IsJudged : Rename → Option File → List ℕ → List ℕ → List Token → Judgement → Type 0
+IsJudged order file name text tokens judged_so =
     (program : Program) × (IsFirstForm file name text program × (tokens_of text ≡ Some tokens) × (judged order name text tokens ≡ judged_so))
+
+-- the project of these files gives this verdict
+abbrev pub Gives : Rename → List File → Verdict → Type 0
+Gives order files (limited which) = limit_of files ≡ Some which
+Gives order files (broken name text kind at) = (limit_of files ≡ None) × IsFirstFault files name text kind at
+Gives order files not_built = IsRead files × IsNotBuilt (sole files)
+Gives order files (judgement name text tokens judged_so) = IsRead files × IsJudged order (sole files) name text tokens judged_so
 
 -- the verdict on an order over these files
 abbrev pub IsVerdict : Rename → List File → Verdict → Type 0
-IsVerdict order files verdict = Gives order (sole (project files)) verdict
+IsVerdict order files verdict = Gives order (project files) verdict
 
 abbrev pub judgement_status : Judgement → Status
 judgement_status (Refuse cond at) = status.Refused
 judgement_status (Accept text) = status.Done
 
 abbrev pub status_of : Verdict → Status
+status_of (limited which) = status.Limit
+status_of (broken name text kind at) = status.BadProject
 status_of not_built = status.BadProject
 status_of (judgement name text tokens judged_so) = judgement_status judged_so
 
@@ -70,6 +94,17 @@ place_text name text (Some at) =
 
 abbrev pub refused_line : List ℕ → List ℕ → Cond → Option ℕ → List ℕ
 refused_line name text cond at = line (codes "refused " ++ name_of cond ++ codes " " ++ place_text name text at)
+
+abbrev pub limit_name : Limit → List ℕ
+limit_name limits.Files = codes "files"
+limit_name limits.File = codes "file"
+limit_name limits.Project = codes "project"
+
+abbrev pub limit_line : Limit → List ℕ
+limit_line which = line (codes "limit " ++ limit_name which)
+
+abbrev pub fault_line : List ℕ → List ℕ → FaultKind → ℕ → List ℕ
+fault_line name text kind at = line (codes "fault " ++ fault_name kind ++ codes " " ++ place_text name text (Some at))
 
 abbrev pub not_built_line : List ℕ
 not_built_line = line (codes "fault " ++ fault_name NotBuilt ++ codes " -")
@@ -88,6 +123,8 @@ judgement_line name text (Refuse cond at) = refused_line name text cond at
 judgement_line name text (Accept new_text) = applying_line
 
 abbrev pub line_of : Verdict → List ℕ
+line_of (limited which) = limit_line which
+line_of (broken name text kind at) = fault_line name text kind at
 line_of not_built = not_built_line
 line_of (judgement name text tokens judged_so) = judgement_line name text judged_so
 
@@ -97,5 +134,7 @@ judgement_put name (Accept new_text) = Some (name, new_text)
 
 -- the file that is put
 abbrev pub put_of : Verdict → Option File
+put_of (limited which) = None
+put_of (broken name text kind at) = None
 put_of not_built = None
 put_of (judgement name text tokens judged_so) = judgement_put name judged_so

@@ -7,7 +7,7 @@ ghost use Rattle.ftn_tool.specs.Orders.{rename_in};
 use crate::carry::{carry_out, say};
 use crate::command::Order;
 use crate::lines::STORE_FAULT;
-use crate::project::{ProjectFault, sole_source};
+use crate::project::{ProjectFault, project_files};
 use crate::reply::due_reply;
 use ftn_base::Status;
 use rename_ref::{Rename, rename_keeps};
@@ -37,12 +37,13 @@ fn apply_rename<S: Store, O: Sink>(
     ensures { Applies order.now (see (S.files store.old) (S.files store.new) (O.taken out.old) (O.taken out.new) (S.faults store.old) (S.faults store.new) (O.faults out.old) (O.faults out.new) (O.wants out.old) (O.wants out.new)) result }
 {
     rename_keeps();
-    let file = match sole_source(alloc, store) {
-        Ok(file) => file,
+    let files = match project_files(alloc, store) {
+        Ok(files) => files,
+        Err(ProjectFault::Past(limit)) => return say(out, limit.line(), Status::Limit),
         Err(ProjectFault::StoreFailed) => return say(out, STORE_FAULT, Status::StoreFault),
         Err(ProjectFault::NoMemory) => return Status::NoMemory,
     };
-    match due_reply(alloc, order, file) {
+    match due_reply(alloc, order, files) {
         Ok(reply) => carry_out(store, out, reply),
         Err(_) => Status::NoMemory,
     }

@@ -12,15 +12,17 @@ Usage:
   ftn_tool -h | --help
   ftn_tool --version
 
-The project is every file of the folder whose name ends in .f90. This version
-reads projects of one file with one main program of integer scalars,
-assignments and `print *`; any other project is `fault NotBuilt -`.
+The project is every file of the folder whose name ends in .f90. Each is read,
+and the first fault is told. This version changes projects of one file with one
+main program of integer scalars, assignments and `print *`; any other project
+without a fault is `fault NotBuilt -`.
 
 Output, one line, and exit codes:
   0  applying 1 files          the rename was made
   1  refused CONDITION PLACE   a condition fails; no file changed
   2  bad word K                the K-th word is bad or missing
-  3  fault NAME PLACE          the project can't be read; no file changed
+  3  fault NAME PLACE          the project has this fault first; no file changed
+  4  limit WHICH               the project is too large; no file changed
   5  store fault               a file could not be read or written
   7                            standard output failed; no file changed
   8                            out of memory; no file changed
@@ -32,6 +34,11 @@ Conditions of rename:
   Keyword   NEW is a word of statements or an intrinsic function
   Captured  NEW already stands at that place
   LongLine  that edit would make a line of more than 132 bytes
+
+Limits:
+  files     a project has at most 4096 files
+  file      a file has at most 4194304 bytes
+  project   the files of a project have at most 16777216 bytes all together
 ";
 
 /// The version.

@@ -5,7 +5,7 @@ ghost use Rattle.std.specs.Fmt.{decimal};
 ghost use Rattle.ftn_base.specs.Places as places;
 ghost use Rattle.ftn_tool.specs.Verdicts as spec;
 
-use ftn_base::{FileName, NoMemory, line_and_column};
+use ftn_base::{FaultKind, FileName, NoMemory, line_and_column};
 use rename_ref::Cond;
 use std::alloc::Global;
 
@@ -43,6 +43,26 @@ pub fn refused(
     let place = place_text(alloc, name, text, at)?;
     let mut made = Vec::from_slice(alloc, b"refused ")?;
     made.extend_from_slice(cond.name().as_bytes())?;
+    made.extend_from_slice(b" ")?;
+    made.extend_from_slice(&place)?;
+    made.extend_from_slice(b"\n")?;
+    Ok(made)
+}
+
+/// What is written where a file has a fault at this byte.
+pub fn fault_line(
+    alloc: Global,
+    name: &FileName,
+    text: &[u8],
+    kind: FaultKind,
+    at: u32,
+) -> Result<Vec<u8>, NoMemory>
+    requires { length text.now + 2 < 2 ^ 32 }
+    ensures { IfOk result (λ made. made.items ≡ spec.fault_line name.now text.now kind at) }
+{
+    let place = place_text(alloc, name, text, Some(at))?;
+    let mut made = Vec::from_slice(alloc, b"fault ")?;
+    made.extend_from_slice(kind.name().as_bytes())?;
     made.extend_from_slice(b" ")?;
     made.extend_from_slice(&place)?;
     made.extend_from_slice(b"\n")?;

@@ -1,14 +1,19 @@
-//! What is due for an order over the one file of a project.
+//! What is due for an order over the files of a project.
 
-ghost use Rattle.std.specs.Prelude.{◌≡◌, ◌+◌, ◌<◌, ◌^◌, length, IfOk};
-ghost use Rattle.ftn_tool.specs.Replies.{judgement_reply, not_built_reply, IsDue};
+ghost use Rattle.std.specs.Prelude.{◌≡◌, ◌+◌, ◌<◌, ◌^◌, None, length, IfOk};
+ghost use Rattle.ftn_tool.specs.Limits.{limit_of};
+ghost use Rattle.ftn_tool.specs.Replies.{fault_reply, judgement_reply, not_built_reply, IsDue, IsFirstFormReply};
+ghost use Rattle.ftn_tool.specs.Verdicts.{sole};
 
+use crate::checking::first_fault;
 use crate::lines::{APPLYING, NOT_BUILT, refused};
-use crate::project::TEXT_LIMIT;
 use free_scan::first_form::read_first_form;
 use ftn_base::{Bytes, FileName, NoMemory, Status};
 use rename_ref::{Judgement, Rename, judge};
 use std::alloc::Global;
+
+/// How many bytes the text of a project in first form has at the most.
+pub const TEXT_LIMIT: u32 = 65536;
 
 /// An answer with its line, and the file that is to be put before it stands.
 #[derive(Debug, Drop)]
@@ -21,13 +26,39 @@ pub struct Reply {
     pub put: Option<(FileName, Bytes)>,
 }
 
-/// The reply that is due for the order, where this is the front of the project's one file, or it has none.
+/// The reply that is due for the order, where these are the project's files and pass no limit.
 pub fn due_reply(
+    alloc: Global,
+    order: &Rename,
+    files: Vec<(FileName, Bytes)>,
+) -> Result<Reply, NoMemory>
+    requires { limit_of files.items ≡ None }
+    ensures { IfOk result (λ reply. IsDue order.now files.items reply) }
+{
+    if let Some(line) = first_fault(alloc, &files)? {
+        return Ok(broken(line));
+    }
+    first_form_reply(alloc, order, sole_file(files))
+}
+
+/// The one of these files, where there is just one.
+fn sole_file(files: Vec<(FileName, Bytes)>) -> Option<(FileName, Bytes)>
+    ensures { result ≡ sole files.items }
+{
+    let mut files = files;
+    if files.len() != 1 {
+        return None;
+    }
+    files.pop()
+}
+
+/// The reply that is due for the order over this one file of a project, or where it has none or more than one.
+fn first_form_reply(
     alloc: Global,
     order: &Rename,
     file: Option<(FileName, Bytes)>,
 ) -> Result<Reply, NoMemory>
-    ensures { IfOk result (λ reply. IsDue order.now file reply) }
+    ensures { IfOk result (IsFirstFormReply order.now file) }
 {
     let Some((name, text)) = file else {
         return not_built(alloc);
@@ -40,6 +71,16 @@ pub fn due_reply(
     };
     let judgement = judge(alloc, order, &name, text.bytes(), form.tokens.as_slice())?;
     judged(alloc, name, &text, judgement)
+}
+
+fn broken(line: Bytes) -> Reply
+    ensures { result ≡ fault_reply line }
+{
+    Reply {
+        status: Status::BadProject,
+        line,
+        put: None,
+    }
 }
 
 fn not_built(alloc: Global) -> Result<Reply, NoMemory>

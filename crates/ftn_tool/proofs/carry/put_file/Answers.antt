@@ -1,6 +1,5 @@
-use Rattle.std.proofs.Common.{◌≡◌, arith, refl}
-use Rattle.store_io.specs.Counts.{Rose}
-use Rattle.store_io.specs.Told.{MayPut, Takes, TakesFront}
+use Rattle.std.proofs.Common.{refl}
+use Rattle.store_io.specs.Told.{Takes}
 use Rattle.store_io.proofs.Taking.{takes_both}
 use Rattle.ftn_tool.specs.Verdicts.{store_fault_line}
 use Rattle.ftn_tool.proofs.Writing.{rose_since, takes_then_front}

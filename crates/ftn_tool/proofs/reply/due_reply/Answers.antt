@@ -1,16 +1,15 @@
-use Rattle.std.proofs.Common.{◌≤◌, length, arith}
-use Rattle.ftn_tool.specs.Verdicts.{text_limit}
-use Rattle.ftn_tool.proofs.Due.{due_lacking, due_judged}
+use Rattle.ftn_tool.proofs.Due.{due_broken, due_read}
+use Rattle.ftn_tool.proofs.Sizes.{all_small}
 use Rattle.ftn_tool.proofs.reply.due_reply.Goals as goal
 
-pub returns-in_default-2 : goal.returns-in_default-2
-returns-in_default-2 c =
-    due_lacking c.args.order.now c.args.file c.in-Some.name c.in-Some.text c.not_built-in_default-2.result c.in-Some.is
-    (rw (c.in_default-2.is, c.bytes-2.ensures) at c.in_ok-form.ensures.program) c.not_built-in_default-2.ensures
+pub first_fault-requires : goal.first_fault-requires
+first_fault-requires c = rw c.deref.ensures.value (all_small c.args.files.items c.requires)
+
+pub returns-in-Some : goal.returns-in-Some
+returns-in-Some c =
+    due_broken c.args.order.now c.args.files.items c.in-Some.line c.broken.result c.requires (rw (c.in-Some.is, c.deref.ensures.value) at c.in_ok-line.ensures) c.broken.ensures
 
 pub returns : goal.returns
 returns c =
-    let size : length c.in-Some.text ≤ text_limit = rw (← c.bytes.ensures) (omega arith) in
-    due_judged c.args.order.now c.args.file c.in-Some.name c.in-Some.text c.in-Some-2.form.program c.in-Some-2.form.tokens c.in_ok-judgement.judgement c.judged.result c.in-Some.is
-    size (rw (c.in-Some-2.is, c.bytes-2.ensures) at c.in_ok-form.ensures.program) (rw (c.in-Some-2.is, c.bytes-2.ensures) at c.in_ok-form.ensures.tokens)
-    (rw (c.bytes-3.ensures, c.as_slice.ensures) at c.in_ok-judgement.ensures) c.judged.ensures
+    due_read c.args.order.now c.args.files.items c.first_form_reply.result c.requires (rw (c.in_default.is, c.deref.ensures.value) at c.in_ok-line.ensures)
+    (rw c.sole_file.ensures at c.first_form_reply.ensures)
