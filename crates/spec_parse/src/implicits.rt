@@ -207,10 +207,10 @@ fn read_typed_group(alloc: Global, cursor: &mut Cursor<'_>) -> Result<LetterGrou
     Ok(LetterGroup { ty, ranges })
 }
 
-fn opens_letters(open: &Token, next: &Token) -> bool
-    ensures { result ≡ spec.opens_letters open.now next.now }
+fn opens_letters(opening: &Token, next: &Token) -> bool
+    ensures { result ≡ spec.opens_letters opening.now next.now }
 {
-    open.lexeme().is(Lexeme::Open) && !is_length(next)
+    opening.lexeme().is(Lexeme::Open) && !is_length(next)
 }
 
 #[tactic(auto, unfolding(crate::specs::Implicits::is_plain))]
@@ -218,7 +218,7 @@ fn is_plain(tokens: &[Token]) -> bool
     ensures { result ≡ spec.is_plain tokens.now }
 {
     match tokens {
-        [here, open, next, ..] => here.is_word(b"character") && opens_letters(open, next),
+        [here, opening, next, ..] => here.is_word(b"character") && opens_letters(opening, next),
         _ => false,
     }
 }
