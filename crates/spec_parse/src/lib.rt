@@ -12,6 +12,8 @@ mod list;
 mod names;
 mod rows;
 mod specifications;
+#[cfg(test)]
+mod tests;
 mod types;
 mod units;
 mod uses;
