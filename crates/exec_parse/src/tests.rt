@@ -1,5 +1,7 @@
 //! Executable statements that are read, and such that are not.
 
+mod plain;
 mod print;
 mod reading;
+mod short;
 mod words;
