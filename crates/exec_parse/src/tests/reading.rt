@@ -120,6 +120,20 @@ fn a_name_groups_and_equals_make_an_assignment(rt: HostRuntime) -> Result<(), Fa
     Ok(())
 }
 
+const ARRAY_NAMED_IF: [(&[u8], &[u8]); 3] = [
+    (b"if~(~3~) = 1", b"assign if 1"),
+    (b"if (~3~) = 2", b"assign if 2"),
+    (b"if (~if~(~3~) == 1~) do = 2", b"if if at do: assign do 2"),
+];
+
+#[test]
+fn an_array_named_if_has_two_assignments_and_an_if_statement(rt: HostRuntime) -> Result<(), Fail> {
+    for (text, form) in ARRAY_NAMED_IF {
+        assert_eq!(rt; shown(rt.alloc(), text)?.as_slice(), form);
+    }
+    Ok(())
+}
+
 const MISFITS: [(&[u8], &[u8]); 17] = [
     (b"n = 1 2", b"NotAStatement"),
     (b"n = 1.5", b"OutOfProfile"),
