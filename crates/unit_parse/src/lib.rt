@@ -9,6 +9,8 @@ mod level;
 mod nesting;
 mod order;
 mod statements;
+#[cfg(test)]
+mod tests;
 mod words;
 
 pub use fault::{NestFault, ParseFault};
