@@ -7,7 +7,7 @@ ghost use Rattle.common_match.specs.Differences.{IsFirstDifference};
 use ftn_base::{Bounds, Shape};
 
 /// Where two lists of shapes differ.
-#[derive(Clone, Copy, Debug, PartialEq, Eq)]
+#[derive(Clone, Copy)]
 pub struct Mismatch {
     /// The first position, from 0 on, at which the shapes differ or that one of the lists lacks.
     pub at: u32,

@@ -1,7 +1,7 @@
 //! The answer: classes, offsets and sizes.
 
 /// The classes of objects that ties join, numbered by their first objects.
-#[derive(Debug, Drop)]
+#[derive(Drop)]
 pub struct Classes {
     /// The class of each object.
     pub class: Vec<u32>,

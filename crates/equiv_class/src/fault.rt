@@ -7,7 +7,7 @@ use ftn_base::NoMemory;
 use std::alloc::AllocError;
 
 /// Why there are no classes.
-#[derive(Clone, Copy, Debug, PartialEq, Eq, Drop)]
+#[derive(Clone, Copy, Drop)]
 pub enum TieFault {
     /// The first tie that contradicts those before it (5.5.1): it would make two different units of one sequence
     /// one.

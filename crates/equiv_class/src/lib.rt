@@ -14,8 +14,3 @@ mod start;
 pub use answer::Classes;
 pub use fault::TieFault;
 pub use solving::classes;
-
-#[cfg(test)]
-mod plain;
-#[cfg(test)]
-mod tests;

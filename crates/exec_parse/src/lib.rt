@@ -7,8 +7,6 @@ mod executables;
 mod ifs;
 mod lists;
 mod loops;
-#[cfg(test)]
-mod tests;
 mod transfers;
 
 pub use executables::executable;

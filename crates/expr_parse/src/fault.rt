@@ -4,7 +4,7 @@ use ftn_base::NoMemory;
 use std::alloc::{AllocError, AllocFailed};
 
 /// Why a row of tokens is no statement and no expression.
-#[derive(Clone, Copy, Debug, PartialEq, Eq)]
+#[derive(Clone, Copy)]
 pub enum StatementFault {
     /// It is none of Fortran 90, as far as can be told.
     NotAStatement,
@@ -17,7 +17,7 @@ pub enum StatementFault {
 }
 
 /// Why the tokens that come next are not read in one form.
-#[derive(Clone, Copy, Debug, PartialEq, Eq)]
+#[derive(Clone, Copy)]
 pub enum Misfit {
     /// They don't have this form.
     NoFit,

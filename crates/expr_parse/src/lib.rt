@@ -10,8 +10,6 @@ mod list;
 mod misfits;
 mod operators;
 mod rules;
-#[cfg(test)]
-mod tests;
 
 pub use assignment::is_assignment;
 pub use constants::constant;

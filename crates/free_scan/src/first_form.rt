@@ -5,12 +5,8 @@ mod lines;
 mod names;
 mod program;
 mod reading;
-#[cfg(test)]
-mod reading_tests;
 mod rows;
 mod statements;
-#[cfg(test)]
-mod tests;
 mod token;
 
 pub use lines::is_plain;

@@ -1,22 +1,12 @@
 //! Tokens of free source form.
 
-#[cfg(test)]
-mod breach_tests;
 mod carried;
 mod firsts;
 mod line;
 mod pieces;
-#[cfg(test)]
-mod plain;
 mod reader;
 mod run;
-#[cfg(test)]
-mod run_tests;
-#[cfg(test)]
-mod scan_tests;
 mod scanner;
-#[cfg(test)]
-mod token_tests;
 mod tokens;
 mod values;
 

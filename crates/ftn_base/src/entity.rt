@@ -8,7 +8,7 @@ use std::alloc::Global;
 use std::marker::Model;
 
 /// The length of a character entity, in characters (4.3.2.1).
-#[derive(Clone, Copy, Debug, PartialEq, Eq)]
+#[derive(Clone, Copy)]
 pub enum Length {
     /// That many characters.
     Fixed(u32),
@@ -17,7 +17,7 @@ pub enum Length {
 }
 
 /// A type of the profile (4.3): default integer, default logical or default character.
-#[derive(Clone, Copy, Debug, PartialEq, Eq)]
+#[derive(Clone, Copy)]
 pub enum Ty {
     /// INTEGER, of 32 bits.
     Integer,
@@ -28,7 +28,7 @@ pub enum Ty {
 }
 
 /// The implicit type of a first letter (5.3).
-#[derive(Clone, Copy, Debug, PartialEq, Eq)]
+#[derive(Clone, Copy)]
 pub enum Letter {
     /// No type, under IMPLICIT NONE.
     Nothing,
@@ -40,7 +40,7 @@ pub enum Letter {
 
 /// The bounds of an array, from the first dimension on: the lower and the upper one (5.1.2.4).
 /// Contracts see the list of pairs.
-#[derive(Debug, Drop)]
+#[derive(Drop)]
 pub struct Bounds {
     pairs: SmallVec<(i32, i32), 2>,
 }
@@ -90,7 +90,7 @@ impl Bounds {
 }
 
 /// The type and the bounds of an entity; a scalar has no bounds (5.1).
-#[derive(Debug, Drop)]
+#[derive(Drop)]
 pub struct Shape {
     /// The type.
     pub ty: Ty,
@@ -111,11 +111,11 @@ impl Shape {
 }
 
 /// The number of an entity in its project.
-#[derive(Clone, Copy, Debug, PartialEq, Eq, PartialOrd, Ord)]
+#[derive(Clone, Copy)]
 pub struct EntityId(pub u32);
 
 /// An EQUIVALENCE tie (5.5.1): unit `at_a` of object `a` is unit `at_b` of object `b`, in storage units from 0.
-#[derive(Clone, Copy, Debug, PartialEq, Eq)]
+#[derive(Clone, Copy)]
 pub struct Tie {
     /// The first object.
     pub a: u32,
@@ -128,7 +128,7 @@ pub struct Tie {
 }
 
 /// The sort of a storage unit (14.6.3.1).
-#[derive(Clone, Copy, Debug, PartialEq, Eq)]
+#[derive(Clone, Copy)]
 pub enum Sort {
     /// A unit of an integer or a logical.
     Numeric,

@@ -6,7 +6,7 @@ ghost use Rattle.ftn_base.specs.FaultNames.{name_of};
 use crate::place::Span;
 
 /// What is wrong with a project. The names are those that are printed.
-#[derive(Clone, Copy, Debug, PartialEq, Eq)]
+#[derive(Clone, Copy)]
 pub enum FaultKind {
     /// A byte that may not stand there, or that begins no token (3.1).
     BadByte,
@@ -86,7 +86,7 @@ pub enum FaultKind {
 }
 
 /// A fault of a project: its kind, where it is, and the second place that some kinds have.
-#[derive(Clone, Copy, Debug, PartialEq, Eq)]
+#[derive(Clone, Copy)]
 pub struct Fault {
     /// What is wrong.
     pub kind: FaultKind,

@@ -18,7 +18,7 @@ use std::hash::{Hash, Hasher};
 use std::marker::Model;
 
 /// The name of a file: 1 to 255 bytes from 33 to 126, and no `/`. Contracts see the list of its bytes.
-#[derive(Debug, Drop)]
+#[derive(Drop)]
 pub struct FileName {
     bytes: Vec<u8>,
 }

@@ -12,8 +12,6 @@ mod name;
 mod place;
 mod status;
 mod steps;
-#[cfg(test)]
-mod tests;
 
 pub use bytes::Bytes;
 pub use entity::{Bounds, EntityId, Length, Letter, Shape, Sort, Tie, Ty};

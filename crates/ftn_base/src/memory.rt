@@ -3,7 +3,7 @@
 use std::alloc::{AllocError, AllocFailed};
 
 /// An allocation was refused. What the refused call took by value is given up.
-#[derive(Clone, Copy, Debug, PartialEq, Eq)]
+#[derive(Clone, Copy)]
 pub struct NoMemory;
 
 impl From<AllocError> for NoMemory {

@@ -20,14 +20,14 @@ use std::marker::Model;
 use thiserror::Error;
 
 /// The edition of the standard that a text is read by.
-#[derive(Clone, Copy, Debug, PartialEq, Eq)]
+#[derive(Clone, Copy)]
 pub enum Edition {
     /// ISO/IEC 1539:1991, Fortran 90.
     F90,
 }
 
 /// Why no name was made of bytes.
-#[derive(Clone, Copy, Debug, PartialEq, Eq, Error)]
+#[derive(Clone, Copy, Debug, Error)]
 pub enum NameFault {
     /// The bytes are no name of the edition, or no file name.
     #[error("NotAName")]
@@ -81,7 +81,7 @@ fn are_name_bytes(bytes: &[u8]) -> bool
 }
 
 /// A name in lower case. Contracts see the list of its bytes.
-#[derive(Debug, Drop)]
+#[derive(Drop)]
 pub struct Name {
     bytes: Vec<u8>,
 }

@@ -6,7 +6,7 @@ ghost use Rattle.ftn_base.specs.Places as spec;
 ghost use Rattle.ftn_base.specs.Places.{advance, offset_of, place_of};
 
 /// The bytes of a text from `start` up to `end`, both offsets in bytes from 0.
-#[derive(Clone, Copy, Debug, PartialEq, Eq, PartialOrd, Ord)]
+#[derive(Clone, Copy)]
 pub struct Range {
     /// The offset of the first byte.
     pub start: u32,
@@ -15,7 +15,7 @@ pub struct Range {
 }
 
 /// A range of bytes in one file of the project, the files counted from 0 in byte order of names.
-#[derive(Clone, Copy, Debug, PartialEq, Eq, PartialOrd, Ord)]
+#[derive(Clone, Copy)]
 pub struct Span {
     /// The number of the file.
     pub file: u32,
@@ -24,7 +24,7 @@ pub struct Span {
 }
 
 /// A place in one file of the project, as it is printed.
-#[derive(Clone, Copy, Debug, PartialEq, Eq, PartialOrd, Ord)]
+#[derive(Clone, Copy)]
 pub struct Place {
     /// The number of the file.
     pub file: u32,

@@ -6,7 +6,7 @@ use std::marker::Model;
 
 /// A count of steps that begins at 0. It keeps the mark that it was made of, so a body that is generic in `L`
 /// can make no other counter of this type and can't set this one back. Contracts see the count.
-#[derive(Debug, Drop)]
+#[derive(Drop)]
 pub struct Steps<L> {
     mark: L,
     count: u64,

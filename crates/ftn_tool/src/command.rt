@@ -16,21 +16,21 @@ use rename_ref::Rename;
 use std::alloc::{AllocError, Global};
 
 /// An order to refactor, with its arguments.
-#[derive(Debug, Drop)]
+#[derive(Drop)]
 pub enum Order {
     /// `rename FILE LINE COLUMN NEW`
     Rename(Rename),
 }
 
 /// What a command line asks for.
-#[derive(Debug, Drop)]
+#[derive(Drop)]
 pub enum Command {
     /// `apply ORDER ..`
     Apply(Order),
 }
 
 /// Why words are no command.
-#[derive(Clone, Copy, Debug, PartialEq, Eq)]
+#[derive(Clone, Copy)]
 pub enum WordsFault {
     /// The position of the first word that is bad or missing, from 1: the least number such that no command
     /// begins with so many of the words, or the number of words plus 1.

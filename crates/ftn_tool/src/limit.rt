@@ -13,7 +13,7 @@ pub const MOST_FILE_BYTES: u32 = 4_194_304;
 pub const MOST_PROJECT_BYTES: usize = 16_777_216;
 
 /// A limit that a project passes.
-#[derive(Clone, Copy, Debug, PartialEq, Eq)]
+#[derive(Clone, Copy)]
 pub enum Limit {
     /// It has more than `MOST_FILES` files.
     Files,

@@ -6,19 +6,11 @@ mod arguments;
 mod carry;
 mod checking;
 mod command;
-#[cfg(test)]
-mod fault_tests;
 mod help;
 mod limit;
-#[cfg(test)]
-mod limit_tests;
 mod lines;
 mod project;
 mod reply;
-#[cfg(test)]
-mod tests;
-#[cfg(test)]
-mod text_tests;
 mod tool;
 
 use crate::arguments::words_of;

@@ -13,7 +13,7 @@ use std::alloc::Global;
 use store_io::{ListFault, ReadFault, Store};
 
 /// Why a project could not be read.
-#[derive(Clone, Copy, Debug, PartialEq, Eq)]
+#[derive(Clone, Copy)]
 pub enum ProjectFault {
     /// The project passes this limit.
     Past(Limit),

@@ -16,7 +16,7 @@ use std::alloc::Global;
 pub const TEXT_LIMIT: u32 = 65536;
 
 /// An answer with its line, and the file that is to be put before it stands.
-#[derive(Debug, Drop)]
+#[derive(Drop)]
 pub struct Reply {
     /// The status.
     pub status: Status,

@@ -7,7 +7,7 @@ use crate::form::Form;
 use crate::parts::EndWord;
 
 /// What part a statement has in the order and the nesting of statements (Fortran 90, 2.3).
-#[derive(Clone, Copy, Debug, PartialEq, Eq)]
+#[derive(Clone, Copy)]
 pub enum Class {
     /// USE.
     Use,

@@ -9,7 +9,7 @@ use sqlite_items::{Boxed, Items};
 
 /// An expression as it is written (7.1.1). Each `u32` is the number of a token in the file, from 0.
 #[cycle(expr)]
-#[derive(Debug, Drop)]
+#[derive(Drop)]
 pub enum Expr {
     /// A whole number (4.3.1.1).
     Whole {
@@ -69,7 +69,7 @@ pub enum Expr {
 
 /// A substring range, `low : high` (6.1.1).
 #[cycle(expr)]
-#[derive(Debug, Drop)]
+#[derive(Drop)]
 pub struct Part {
     /// The position of its first character, if it is written.
     pub low: Option<Expr>,

@@ -10,7 +10,7 @@ use sqlite_items::{Boxed, Items};
 
 /// A statement as it is written. Each `u32` is the number of a token in the file, from 0. What may be written in two ways or
 /// left out is recorded, so that the form gives the tokens of its statement.
-#[derive(Debug, Drop)]
+#[derive(Drop)]
 pub enum Form {
     /// `target = value` (7.5.1).
     Assign {

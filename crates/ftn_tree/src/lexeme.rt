@@ -7,7 +7,7 @@ use crate::token::{Token, TokenKind};
 
 /// What a token is in the grammar (Fortran 90, 3.2). Operators that bind alike and differ in nothing else that the grammar asks
 /// are one.
-#[derive(Clone, Copy, Debug, PartialEq, Eq)]
+#[derive(Clone, Copy)]
 pub enum Lexeme {
     /// A name or a word of a statement.
     Word,

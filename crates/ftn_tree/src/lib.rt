@@ -9,11 +9,7 @@ mod mark;
 mod parts;
 mod piece;
 mod table;
-#[cfg(test)]
-mod tests;
 mod token;
-#[cfg(test)]
-mod token_tests;
 mod unit;
 mod value;
 

@@ -7,7 +7,7 @@ use crate::form::Form;
 use crate::parts::EndWord;
 
 /// The word of an END and a name: of the END itself, or of a statement that opens what this END ends.
-#[derive(Clone, Copy, Debug, PartialEq, Eq)]
+#[derive(Clone, Copy)]
 pub struct Title {
     /// The word after END.
     pub word: EndWord,
@@ -16,7 +16,7 @@ pub struct Title {
 }
 
 /// What a statement is to the nesting of statements. An IF statement is what the statement in it is.
-#[derive(Clone, Copy, Debug, PartialEq, Eq)]
+#[derive(Clone, Copy)]
 pub enum Mark {
     /// USE (11.3.2).
     Use,
@@ -53,7 +53,7 @@ pub enum Mark {
 }
 
 /// What encloses a statement, the innermost thing that is open around it.
-#[derive(Clone, Copy, Debug, PartialEq, Eq)]
+#[derive(Clone, Copy)]
 pub enum Region {
     /// Nothing: the statement opens a program unit (2.1).
     File,
@@ -82,7 +82,7 @@ pub enum Region {
 }
 
 /// A part of what a region holds. Each opening stands for all that it opens.
-#[derive(Clone, Copy, Debug, PartialEq, Eq)]
+#[derive(Clone, Copy)]
 pub enum Content {
     /// Program units.
     Unit,
@@ -115,7 +115,7 @@ pub enum Content {
 }
 
 /// A stretch of the statements that a region holds.
-#[derive(Clone, Copy, Debug, PartialEq, Eq)]
+#[derive(Clone, Copy)]
 pub enum Section {
     /// Any number of statements of that part, none among them.
     Any(Content),

@@ -4,7 +4,7 @@ use crate::expr::Expr;
 use sqlite_items::Items;
 
 /// The type that a declaration or a FUNCTION statement writes (Fortran 90, 5.1.1).
-#[derive(Debug, Drop)]
+#[derive(Drop)]
 pub enum TypeSpec {
     /// `INTEGER`.
     Integer,
@@ -15,7 +15,7 @@ pub enum TypeSpec {
 }
 
 /// The length that stands after `CHARACTER` (5.1.1.5).
-#[derive(Debug, Drop)]
+#[derive(Drop)]
 pub enum LengthSelector {
     /// `* length`.
     Star(CharLength),
@@ -29,7 +29,7 @@ pub enum LengthSelector {
 }
 
 /// A length after `*` (5.1.1.5).
-#[derive(Debug, Drop)]
+#[derive(Drop)]
 pub enum CharLength {
     /// A whole number.
     Whole {
@@ -43,7 +43,7 @@ pub enum CharLength {
 }
 
 /// A length as it is written (5.1.1.5).
-#[derive(Debug, Drop)]
+#[derive(Drop)]
 pub enum LengthValue {
     /// `*`: the length of the actual argument or of the value.
     Assumed,
@@ -52,7 +52,7 @@ pub enum LengthValue {
 }
 
 /// The type of a group of IMPLICIT (5.3).
-#[derive(Debug, Drop)]
+#[derive(Drop)]
 pub enum ImplicitType {
     /// `REAL`, which the profile has here alone.
     Real,
@@ -61,7 +61,7 @@ pub enum ImplicitType {
 }
 
 /// A type and the letters that it is given to (5.3).
-#[derive(Debug, Drop)]
+#[derive(Drop)]
 pub struct LetterGroup {
     /// The type.
     pub ty: ImplicitType,
@@ -70,7 +70,7 @@ pub struct LetterGroup {
 }
 
 /// A letter or a range of letters, each by its token (5.3).
-#[derive(Clone, Copy, Debug, PartialEq, Eq)]
+#[derive(Clone, Copy)]
 pub struct LetterRange {
     /// The first letter.
     pub first: u32,
@@ -79,7 +79,7 @@ pub struct LetterRange {
 }
 
 /// One dimension of an array (5.1.2.4).
-#[derive(Debug, Drop)]
+#[derive(Drop)]
 pub struct BoundPair {
     /// The lower bound, if it is written; else it is 1.
     pub low: Option<Expr>,
@@ -88,7 +88,7 @@ pub struct BoundPair {
 }
 
 /// `PUBLIC` or `PRIVATE` (5.2.3).
-#[derive(Clone, Copy, Debug, PartialEq, Eq)]
+#[derive(Clone, Copy)]
 pub enum AccessWord {
     /// Accessible where the module is used.
     Public,
@@ -97,7 +97,7 @@ pub enum AccessWord {
 }
 
 /// `EXTERNAL` or `INTRINSIC` (12.3.2.2, 12.3.2.3).
-#[derive(Clone, Copy, Debug, PartialEq, Eq)]
+#[derive(Clone, Copy)]
 pub enum ProcedureWord {
     /// A procedure of the project.
     External,
@@ -106,7 +106,7 @@ pub enum ProcedureWord {
 }
 
 /// What stands in the parentheses of INTENT (5.2.1).
-#[derive(Clone, Copy, Debug, PartialEq, Eq)]
+#[derive(Clone, Copy)]
 pub enum IntentMode {
     /// `IN`.
     In,
@@ -120,7 +120,7 @@ pub enum IntentMode {
 }
 
 /// An attribute of a type declaration with its first token (5.1.2).
-#[derive(Debug, Drop)]
+#[derive(Drop)]
 pub struct Attribute {
     /// Its word.
     pub token: u32,
@@ -129,7 +129,7 @@ pub struct Attribute {
 }
 
 /// What an attribute says (5.1.2).
-#[derive(Debug, Drop)]
+#[derive(Drop)]
 pub enum AttributeKind {
     /// `PARAMETER`.
     Parameter,
@@ -146,7 +146,7 @@ pub enum AttributeKind {
 }
 
 /// An entity in a type declaration (5.1).
-#[derive(Debug, Drop)]
+#[derive(Drop)]
 pub struct EntityDecl {
     /// The name.
     pub name: u32,
@@ -159,7 +159,7 @@ pub struct EntityDecl {
 }
 
 /// A name with bounds in DIMENSION (5.2.5).
-#[derive(Debug, Drop)]
+#[derive(Drop)]
 pub struct ArrayDecl {
     /// The name.
     pub name: u32,
@@ -168,7 +168,7 @@ pub struct ArrayDecl {
 }
 
 /// A name and its value in PARAMETER (5.2.10).
-#[derive(Debug, Drop)]
+#[derive(Drop)]
 pub struct NamedConstant {
     /// The name.
     pub name: u32,
@@ -177,7 +177,7 @@ pub struct NamedConstant {
 }
 
 /// An item of SAVE (5.2.4).
-#[derive(Clone, Copy, Debug, PartialEq, Eq)]
+#[derive(Clone, Copy)]
 pub enum SaveItem {
     /// The name of a variable.
     Variable(u32),
@@ -186,7 +186,7 @@ pub enum SaveItem {
 }
 
 /// A rename of USE, `local => source` (11.3.2).
-#[derive(Clone, Copy, Debug, PartialEq, Eq)]
+#[derive(Clone, Copy)]
 pub struct Rename {
     /// The name that it has here.
     pub local: u32,
@@ -195,7 +195,7 @@ pub struct Rename {
 }
 
 /// An item after ONLY, `source` or `local => source` (11.3.2).
-#[derive(Clone, Copy, Debug, PartialEq, Eq)]
+#[derive(Clone, Copy)]
 pub struct OnlyItem {
     /// The name that it has here, where one of its own is written.
     pub local: Option<u32>,
@@ -204,7 +204,7 @@ pub struct OnlyItem {
 }
 
 /// What stands before the members of a group of COMMON (5.5.2).
-#[derive(Clone, Copy, Debug, PartialEq, Eq)]
+#[derive(Clone, Copy)]
 pub enum BlockName {
     /// Nothing, before the first group alone: blank common.
     Unwritten,
@@ -225,7 +225,7 @@ pub enum BlockName {
 }
 
 /// A list of members of one block in COMMON (5.5.2).
-#[derive(Debug, Drop)]
+#[derive(Drop)]
 pub struct CommonGroup {
     /// Whether a comma stands before it, which it may from the second group on.
     pub comma: bool,
@@ -236,7 +236,7 @@ pub struct CommonGroup {
 }
 
 /// A member of a common block (5.5.2).
-#[derive(Debug, Drop)]
+#[derive(Drop)]
 pub struct CommonMember {
     /// The name.
     pub name: u32,
@@ -245,7 +245,7 @@ pub struct CommonMember {
 }
 
 /// A variable or an array element in EQUIVALENCE (5.5.1).
-#[derive(Debug, Drop)]
+#[derive(Drop)]
 pub struct Designator {
     /// The name.
     pub name: u32,
@@ -254,7 +254,7 @@ pub struct Designator {
 }
 
 /// What END ends (2.3.3, 8.1).
-#[derive(Clone, Copy, Debug, PartialEq, Eq)]
+#[derive(Clone, Copy)]
 pub enum EndWord {
     /// `PROGRAM`.
     Program,
@@ -275,7 +275,7 @@ pub enum EndWord {
 }
 
 /// What stands after END.
-#[derive(Clone, Copy, Debug, PartialEq, Eq)]
+#[derive(Clone, Copy)]
 pub struct Ending {
     /// The word.
     pub word: EndWord,
@@ -286,7 +286,7 @@ pub struct Ending {
 }
 
 /// The control of a counted DO, `variable = from, to, step` (8.1.4.1).
-#[derive(Debug, Drop)]
+#[derive(Drop)]
 pub struct DoControl {
     /// Whether a comma stands before it.
     pub comma: bool,
@@ -301,7 +301,7 @@ pub struct DoControl {
 }
 
 /// EXIT or CYCLE (8.1.4.4).
-#[derive(Clone, Copy, Debug, PartialEq, Eq)]
+#[derive(Clone, Copy)]
 pub enum LeaveWord {
     /// `EXIT`: leave the loop.
     Exit,
@@ -310,7 +310,7 @@ pub enum LeaveWord {
 }
 
 /// A range of a CASE statement (8.1.3.1).
-#[derive(Debug, Drop)]
+#[derive(Drop)]
 pub enum CaseRange {
     /// `value`.
     One(Expr),
@@ -328,7 +328,7 @@ pub enum CaseRange {
 }
 
 /// How an input or output statement begins (9.4).
-#[derive(Clone, Copy, Debug, PartialEq, Eq)]
+#[derive(Clone, Copy)]
 pub enum IoStyle {
     /// `PRINT *` or `READ *`; a comma stands before the first item.
     Star,

@@ -3,7 +3,7 @@
 use crate::token::TokenKind;
 
 /// What a piece of a text is.
-#[derive(Clone, Copy, Debug, PartialEq, Eq)]
+#[derive(Clone, Copy)]
 pub enum PieceKind {
     /// A blank.
     Blank,
@@ -16,7 +16,7 @@ pub enum PieceKind {
 }
 
 /// Where a byte stands.
-#[derive(Clone, Copy, Debug, PartialEq, Eq)]
+#[derive(Clone, Copy)]
 pub struct Spot {
     /// Its offset in bytes.
     pub at: u32,

@@ -7,7 +7,7 @@ use ftn_base::{Bytes, EntityId, Letter, Name, Span};
 use sqlite_items::Items;
 
 /// What a scoping unit is (Fortran 90, 14.1.1).
-#[derive(Clone, Copy, Debug, PartialEq, Eq)]
+#[derive(Clone, Copy)]
 pub enum ScopeKind {
     /// A main program.
     Program,
@@ -41,7 +41,7 @@ impl ScopeKind {
 }
 
 /// A statement of the project.
-#[derive(Clone, Copy, Debug, PartialEq, Eq, PartialOrd, Ord)]
+#[derive(Clone, Copy)]
 pub struct StatementId {
     /// The number of its file.
     pub file: u32,
@@ -51,7 +51,7 @@ pub struct StatementId {
 
 /// A scoping unit (14.1.1): a program unit, a procedure or an interface body. The scoping units of a project are numbered from 0,
 /// by file and by the offset of their openings.
-#[derive(Debug, Drop)]
+#[derive(Drop)]
 pub struct Scope {
     /// What it is.
     pub kind: ScopeKind,
@@ -68,7 +68,7 @@ pub struct Scope {
 }
 
 /// What an entity is (14.1).
-#[derive(Clone, Copy, Debug, PartialEq, Eq)]
+#[derive(Clone, Copy)]
 pub enum EntityKind {
     /// A main program.
     Program,
@@ -126,7 +126,7 @@ impl EntityKind {
 }
 
 /// An entity. Those of a project are numbered from 0, by file and by the offset of their first tokens, blank common last.
-#[derive(Debug, Drop)]
+#[derive(Drop)]
 pub struct Entity {
     /// Its folded name. Blank common alone has none.
     pub name: Option<Name>,
@@ -144,7 +144,7 @@ pub struct Entity {
 }
 
 /// Where in its statement a name stands, which tells how it is used there.
-#[derive(Clone, Copy, Debug, PartialEq, Eq)]
+#[derive(Clone, Copy)]
 pub enum Role {
     /// After PROGRAM, MODULE, SUBROUTINE or FUNCTION.
     Opens,
@@ -238,7 +238,7 @@ impl Role {
 }
 
 /// A name in a statement.
-#[derive(Clone, Copy, Debug, PartialEq, Eq)]
+#[derive(Clone, Copy)]
 pub struct Mention {
     /// Its token.
     pub token: u32,
@@ -247,7 +247,7 @@ pub struct Mention {
 }
 
 /// A name token. Those of a project are numbered from 0, by file and by offset.
-#[derive(Debug, Drop)]
+#[derive(Drop)]
 pub struct Occurrence {
     /// The token.
     pub span: Span,
@@ -260,7 +260,7 @@ pub struct Occurrence {
 }
 
 /// The scoping units of a project, its entities, and where its names occur.
-#[derive(Debug, Drop)]
+#[derive(Drop)]
 pub struct Tables {
     /// The scoping units.
     pub scopes: Items<Scope>,
@@ -271,7 +271,7 @@ pub struct Tables {
 }
 
 /// Tables in which each name is bound to what it denotes (14.1.2).
-#[derive(Debug, Drop)]
+#[derive(Drop)]
 pub struct Bound {
     /// The tables.
     pub tables: Tables,

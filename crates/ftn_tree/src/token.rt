@@ -4,7 +4,7 @@ use ftn_base::{Bytes, Range};
 use sqlite_items::Items;
 
 /// What a token is (Fortran 90, 3.2).
-#[derive(Clone, Copy, Debug, PartialEq, Eq)]
+#[derive(Clone, Copy)]
 pub enum TokenKind {
     /// A letter and the letters, digits and underscores after it: a name or a word of a statement (3.2.1, 3.2.4).
     Word,
@@ -21,7 +21,7 @@ pub enum TokenKind {
 }
 
 /// A token with its place.
-#[derive(Debug, Drop)]
+#[derive(Drop)]
 pub struct Token {
     /// What it is.
     pub kind: TokenKind,
@@ -37,7 +37,7 @@ pub struct Token {
 }
 
 /// The tokens of a text.
-#[derive(Debug, Drop)]
+#[derive(Drop)]
 pub struct Tokens {
     /// The tokens in their order.
     pub items: Items<Token>,

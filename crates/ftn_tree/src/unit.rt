@@ -6,7 +6,7 @@ use ftn_base::Range;
 use sqlite_items::Items;
 
 /// A statement and its tokens.
-#[derive(Debug, Drop)]
+#[derive(Drop)]
 pub struct Statement {
     /// What it says.
     pub form: Form,
@@ -20,7 +20,7 @@ pub struct Statement {
 /// Each statement of a file stands in its units once, but for the first arm of an IF or a DO, whose head is also the opening. Put in
 /// the order of their openings, the units inside and the blocks are all that stands between the opening and the ending.
 #[cycle(unit)]
-#[derive(Debug, Drop)]
+#[derive(Drop)]
 pub struct Unit {
     /// The statement that opens it.
     pub opening: u32,
@@ -34,7 +34,7 @@ pub struct Unit {
 
 /// A statement by itself, or a construct (8.1).
 #[cycle(block)]
-#[derive(Debug, Drop)]
+#[derive(Drop)]
 pub enum Block {
     /// A statement that is no part of a construct inside its unit.
     Plain(u32),
@@ -51,7 +51,7 @@ pub enum Block {
 
 /// An arm of a construct (8.1).
 #[cycle(block)]
-#[derive(Debug, Drop)]
+#[derive(Drop)]
 pub struct Arm {
     /// The statement that begins it: IF, ELSE IF, ELSE, DO or CASE.
     pub head: u32,
@@ -60,7 +60,7 @@ pub struct Arm {
 }
 
 /// A file that was read.
-#[derive(Debug, Drop)]
+#[derive(Drop)]
 pub struct FileTree {
     /// Its tokens.
     pub tokens: Tokens,

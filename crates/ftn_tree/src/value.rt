@@ -7,7 +7,7 @@ use sqlite_items::Items;
 use std::alloc::Global;
 
 /// A value of a type of the profile (Fortran 90, 4.3).
-#[derive(Debug, Drop)]
+#[derive(Drop)]
 pub enum Value {
     /// An integer.
     Whole(i32),
@@ -31,7 +31,7 @@ impl Value {
 }
 
 /// The type and the rank of a variable, a constant, a dummy argument or a result (2.4.1, 2.4.5).
-#[derive(Clone, Copy, Debug, PartialEq, Eq)]
+#[derive(Clone, Copy)]
 pub struct Kind {
     /// The type. A length that is no constant is that of the actual argument or of the value.
     pub ty: Ty,
@@ -40,7 +40,7 @@ pub struct Kind {
 }
 
 /// What is known of the entities of a project as values. Each list has one entry for each entity, by its number.
-#[derive(Debug, Drop)]
+#[derive(Drop)]
 pub struct Values {
     /// The type and the bounds, where all bounds are constant.
     pub shapes: Items<Option<Shape>>,

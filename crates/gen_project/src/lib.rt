@@ -2,8 +2,6 @@
 #![tactic(auto)]
 
 mod project;
-#[cfg(test)]
-mod tests;
 mod texts;
 
 pub use project::make;

@@ -8,12 +8,12 @@ use ftn_base::{Letter, Ty};
 use std::marker::Model;
 
 /// The first letter of a range that a range of the same scoping unit gave before (5.3).
-#[derive(Clone, Copy, Debug, PartialEq, Eq)]
+#[derive(Clone, Copy)]
 pub struct Twice(pub u8);
 
 /// The implicit type of each letter, and whether a range of the scoping unit gave it.
 /// Contracts see the list of these pairs, one for each letter from A to Z.
-#[derive(Debug, Drop)]
+#[derive(Drop)]
 pub struct LetterMap {
     entries: [(Letter, bool); 26],
 }

@@ -3,7 +3,5 @@
 
 mod letter_map;
 mod rows;
-#[cfg(test)]
-mod tests;
 
 pub use letter_map::{LetterMap, Twice};

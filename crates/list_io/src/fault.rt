@@ -7,7 +7,7 @@ use ftn_base::NoMemory;
 use thiserror::Error;
 
 /// Why no value was made of the bytes of an item.
-#[derive(Clone, Copy, Debug, PartialEq, Eq, Error)]
+#[derive(Clone, Copy, Debug, Error)]
 pub enum ItemFault {
     /// The bytes are no item of the type.
     #[error("BadItem")]

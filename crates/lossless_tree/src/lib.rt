@@ -3,8 +3,6 @@
 
 mod laws;
 mod text;
-#[cfg(test)]
-mod text_tests;
 
 pub use laws::tokens_and_gaps_are_the_text;
 pub use text::Text;

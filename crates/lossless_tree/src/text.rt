@@ -11,7 +11,7 @@ use ftn_tree::{Token, Tokens};
 use std::marker::Model;
 
 /// A text with its tokens, both lent. Contracts see the text alone, since its tokens are the ones that it has.
-#[derive(Debug, Drop)]
+#[derive(Drop)]
 pub struct Text<'a> {
     text: &'a [u8],
     tokens: &'a Tokens,

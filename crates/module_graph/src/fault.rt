@@ -7,7 +7,7 @@ use ftn_base::NoMemory;
 use std::alloc::AllocError;
 
 /// Why there is no order of modules.
-#[derive(Debug, Drop)]
+#[derive(Drop)]
 pub enum GraphFault {
     /// A cycle: each module of the list uses the next, and the last uses the first. It begins with the least
     /// module that lies on any cycle.

@@ -13,8 +13,3 @@ mod walk;
 
 pub use fault::GraphFault;
 pub use modules::order;
-
-#[cfg(test)]
-mod plain;
-#[cfg(test)]
-mod tests;

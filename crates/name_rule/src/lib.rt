@@ -3,8 +3,6 @@
 
 mod pattern;
 mod rule;
-#[cfg(test)]
-mod tests;
 
 pub use pattern::NamePattern;
 pub use rule::NameRule;

@@ -7,7 +7,7 @@ use ftn_base::Bytes;
 
 /// A pattern of names. It narrows what the language allows (Fortran 90, 3.2.1: a letter, then letters, digits and
 /// underscores).
-#[derive(Debug, Drop)]
+#[derive(Drop)]
 pub struct NamePattern {
     /// What a name begins with.
     pub prefix: Bytes,

@@ -9,7 +9,7 @@ use std::alloc::{AllocError, AllocFailed};
 use thiserror::Error;
 
 /// Why no plan was read.
-#[derive(Clone, Copy, Debug, PartialEq, Eq, Error)]
+#[derive(Clone, Copy, Debug, Error)]
 pub enum PlanFault {
     /// The bytes are no plan's text. The first field that is broken or cut begins at this offset.
     #[error("NotAPlan")]
@@ -28,7 +28,7 @@ impl From<NoMemory> for PlanFault {
 }
 
 /// Why reading stops.
-#[derive(Clone, Copy, Debug, PartialEq, Eq)]
+#[derive(Clone, Copy)]
 pub enum Stop {
     /// A field is broken or cut. So many bytes are left from its start on.
     Broken(usize),

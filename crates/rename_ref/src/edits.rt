@@ -7,7 +7,7 @@ use ftn_base::{Bytes, NoMemory, Range};
 use std::alloc::Global;
 
 /// An edit: the bytes of the range are replaced by the text.
-#[derive(Debug, Drop)]
+#[derive(Drop)]
 pub struct Edit {
     /// The bytes that go.
     pub range: Range,
@@ -29,28 +29,4 @@ pub fn apply(alloc: Global, text: &[u8], edits: &[Edit]) -> Result<Vec<u8>, NoMe
     }
     made.extend_from_slice(&text[at..])?;
     Ok(made)
-}
-
-#[cfg(test)]
-mod tests {
-    use super::*;
-    use std::test::Fail;
-
-    #[test]
-    fn applies_two_edits(rt: HostRuntime) -> Result<(), Fail> {
-        let alloc = rt.alloc();
-        let edits = [
-            Edit {
-                range: Range { start: 0, end: 1 },
-                text: Bytes::from_slice(alloc, b"total")?,
-            },
-            Edit {
-                range: Range { start: 8, end: 9 },
-                text: Bytes::from_slice(alloc, b"total")?,
-            },
-        ];
-        let made = apply(alloc, b"x = y + x\n", &edits)?;
-        assert_eq!(rt; made.as_slice(), b"total = y + total\n".as_slice());
-        Ok(())
-    }
 }

@@ -17,7 +17,7 @@ use ftn_base::NoMemory;
 use std::alloc::Global;
 
 /// A fault of a run.
-#[derive(Clone, Copy, Debug, PartialEq, Eq)]
+#[derive(Clone, Copy)]
 pub enum RunFault {
     /// A variable that holds nothing is read.
     Undefined,
@@ -26,7 +26,7 @@ pub enum RunFault {
 }
 
 /// How a run ends.
-#[derive(Clone, Copy, Debug, PartialEq, Eq)]
+#[derive(Clone, Copy)]
 pub enum Outcome {
     /// The program ended.
     Stop,
@@ -37,7 +37,7 @@ pub enum Outcome {
 }
 
 /// What a run wrote, and how it ended.
-#[derive(Debug, Drop)]
+#[derive(Drop)]
 pub struct Ran {
     /// The records, each with its LF.
     pub output: Vec<u8>,
@@ -82,6 +82,3 @@ pub fn one_run_per_text()
 pub fn renaming_keeps_runs()
     ensures { RenamingKeepsRuns }
 {}
-
-#[cfg(test)]
-mod tests;

@@ -14,7 +14,7 @@ use ftn_tree::Token;
 use std::alloc::Global;
 
 /// A condition of a refactoring that may fail. The names are those that are printed.
-#[derive(Clone, Copy, Debug, PartialEq, Eq)]
+#[derive(Clone, Copy)]
 pub enum Cond {
     /// No name token covers the place.
     NoName,
@@ -44,7 +44,7 @@ impl Cond {
 }
 
 /// What becomes of an order.
-#[derive(Debug, Drop)]
+#[derive(Drop)]
 pub enum Judgement {
     /// A condition fails.
     Refuse {

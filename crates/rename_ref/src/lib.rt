@@ -7,8 +7,6 @@ pub mod first_meaning;
 mod judgement;
 mod keeping;
 mod rename;
-#[cfg(test)]
-mod text_tests;
 
 pub use edits::{Edit, apply};
 pub use judgement::{Cond, Judgement, judge};

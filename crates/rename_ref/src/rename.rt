@@ -3,7 +3,7 @@
 use ftn_base::{Bytes, FileName};
 
 /// The order to give the entity that a name token denotes a new name, everywhere.
-#[derive(Debug, Drop)]
+#[derive(Drop)]
 pub struct Rename {
     /// The file of the name token.
     pub file: FileName,

@@ -12,8 +12,6 @@ mod list;
 mod names;
 mod rows;
 mod specifications;
-#[cfg(test)]
-mod tests;
 mod types;
 mod units;
 mod uses;

@@ -21,7 +21,7 @@ use ftn_tree::{Form, Lexeme, Token, TokenKind};
 use std::alloc::Global;
 
 /// What a statement that begins with a certain word may be.
-#[derive(Clone, Copy, Debug, PartialEq, Eq)]
+#[derive(Clone, Copy)]
 pub enum Row {
     /// PROGRAM.
     Program,

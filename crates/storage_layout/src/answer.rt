@@ -1,7 +1,7 @@
 //! The answer: areas, offsets and sizes.
 
 /// Areas of storage, each of the objects that lie in one storage sequence, numbered by their first objects.
-#[derive(Debug, Drop)]
+#[derive(Drop)]
 pub struct Layout {
     /// The area of each object.
     pub area: Vec<u32>,

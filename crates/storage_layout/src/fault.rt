@@ -7,7 +7,7 @@ use ftn_base::NoMemory;
 use std::alloc::AllocError;
 
 /// Why there is no layout. Ties, objects and lists have their numbers, from 0.
-#[derive(Clone, Copy, Debug, PartialEq, Eq, Drop)]
+#[derive(Clone, Copy, Drop)]
 pub enum LayoutFault {
     /// The first object that takes more than 2^20 units, or with which all take more than 2^24.
     TooLarge(u32),

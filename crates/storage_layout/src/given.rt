@@ -3,7 +3,7 @@
 use ftn_base::Sort;
 
 /// A variable or a result that takes storage units.
-#[derive(Clone, Copy, Debug, PartialEq, Eq)]
+#[derive(Clone, Copy)]
 pub struct Object {
     /// How many storage units it takes (14.6.3.1); 2^32 - 1 stands for every greater number too.
     pub units: u32,
@@ -14,7 +14,7 @@ pub struct Object {
 }
 
 /// A list of a common block in COMMON statements of one scoping unit (5.5.2).
-#[derive(Debug, Drop)]
+#[derive(Drop)]
 pub struct BlockList {
     /// The number of the block.
     pub block: u32,

@@ -1,7 +1,7 @@
 //! Faults that more links cannot undo.
 
 /// A fault that more links cannot undo.
-#[derive(Clone, Copy, Debug, PartialEq, Eq)]
+#[derive(Clone, Copy)]
 pub enum Kind {
     /// Ties extend a block before its first unit.
     Before,

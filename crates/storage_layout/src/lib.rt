@@ -27,10 +27,3 @@ pub use answer::Layout;
 pub use fault::LayoutFault;
 pub use given::{BlockList, Object};
 pub use laying::layout;
-
-#[cfg(test)]
-mod askable;
-#[cfg(test)]
-mod plain;
-#[cfg(test)]
-mod tests;

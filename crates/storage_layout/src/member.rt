@@ -8,7 +8,7 @@ use ftn_base::NoMemory;
 use std::alloc::Global;
 
 /// A member of a list of a common block in a scoping unit.
-#[derive(Clone, Copy, Debug, PartialEq, Eq)]
+#[derive(Clone, Copy)]
 pub struct Member {
     /// The number of the block.
     pub block: u32,

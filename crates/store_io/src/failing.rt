@@ -4,7 +4,7 @@ ghost use Rattle.std.specs.Prelude.{◌≡◌, ◌≤◌, ◌^◌, ◌-◌, ◌+
 ghost use Rattle.store_io.specs.Counts.{Rose, is_listed, next_count};
 
 /// Counts a device's calls, and knows those that are to fail.
-#[derive(Debug, Drop)]
+#[derive(Drop)]
 pub(crate) struct FailingCalls {
     // the numbers of the calls that fail, counted from 1
     pub(crate) fails: Vec<u64>,

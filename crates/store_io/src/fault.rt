@@ -9,11 +9,11 @@ use std::alloc::{AllocError, AllocFailed};
 use thiserror::Error;
 
 /// The outside failed: a device answered an error, and the device's count of faults rose.
-#[derive(Clone, Copy, Debug, PartialEq, Eq)]
+#[derive(Clone, Copy)]
 pub struct Failed;
 
 /// Why a list of names could not be given.
-#[derive(Clone, Copy, Debug, PartialEq, Eq, Error)]
+#[derive(Clone, Copy, Debug, Error)]
 pub enum ListFault {
     /// The store failed, and its count of faults rose.
     #[error("Failed")]
@@ -24,7 +24,7 @@ pub enum ListFault {
 }
 
 /// Why a text could not be given.
-#[derive(Clone, Copy, Debug, PartialEq, Eq, Error)]
+#[derive(Clone, Copy, Debug, Error)]
 pub enum ReadFault {
     /// The store failed, and its count of faults rose.
     #[error("Failed")]
@@ -38,7 +38,7 @@ pub enum ReadFault {
 }
 
 /// Why a sink took nothing.
-#[derive(Clone, Copy, Debug, PartialEq, Eq, Error)]
+#[derive(Clone, Copy, Debug, Error)]
 pub enum SinkFault {
     /// The sink failed, and its count of faults rose.
     #[error("Failed")]

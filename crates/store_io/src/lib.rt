@@ -12,8 +12,6 @@ mod source;
 mod std_sink;
 mod std_source;
 mod store;
-#[cfg(test)]
-mod tests;
 
 pub use dir_store::DirStore;
 pub use fault::{Failed, ListFault, ReadFault, SinkFault};

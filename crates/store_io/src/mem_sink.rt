@@ -12,7 +12,7 @@ use std::marker::Model;
 /// A sink that keeps what it takes in memory and tells it. It fails at the listed calls and at no other, and
 /// wants memory where its allocator refuses it. Contracts see what was taken, the numbers of the calls that
 /// fail, and the counts of calls, faults and wants, which stand still at the end of a u64.
-#[derive(Debug, Drop)]
+#[derive(Drop)]
 pub struct MemSink {
     taken: Vec<u8>,
     failing: FailingCalls,

@@ -12,7 +12,7 @@ use std::marker::Model;
 /// A source that gives bytes from memory and tells what is left of them. It fails at the listed calls and
 /// at no other. Contracts see what is left, the numbers of the calls that fail, and the counts of calls and
 /// faults, which stand still at the end of a u64.
-#[derive(Debug, Drop)]
+#[derive(Drop)]
 pub struct MemSource {
     bytes: Vec<u8>,
     // how many were given

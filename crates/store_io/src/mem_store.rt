@@ -12,7 +12,7 @@ use std::marker::Model;
 
 /// A store that keeps its files in memory and tells them. It never fails. Contracts see its files, in byte
 /// order of names, and its spare places.
-#[derive(Debug, Drop)]
+#[derive(Drop)]
 pub struct MemStore {
     files: Vec<(FileName, Bytes)>,
 }

@@ -6,7 +6,7 @@ ghost use Rattle.token_edit.specs.Edits.{fit};
 use ftn_base::{Bytes, Range};
 
 /// An edit: the text comes in place of the bytes of the range. With an empty range it is an insertion before the byte there.
-#[derive(Debug, Drop)]
+#[derive(Drop)]
 pub struct Edit {
     /// The bytes that go, as offsets in the text before all edits.
     pub range: Range,

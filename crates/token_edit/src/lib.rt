@@ -3,8 +3,6 @@
 
 mod applying;
 mod edit;
-#[cfg(test)]
-mod tests;
 
 pub use applying::{apply, bytes_outside_stay};
 pub use edit::{Edit, fits};

@@ -7,7 +7,7 @@ ghost use Rattle.unit_parse.specs.declared.fault.ParseFault.TheVariants as parse
 use ftn_base::{FaultKind, NoMemory, Range};
 
 /// Why statements don't nest.
-#[derive(Clone, Copy, Debug, PartialEq, Eq, Drop)]
+#[derive(Clone, Copy, Drop)]
 pub enum NestFault {
     /// The first statement that can't stand where it does; at the end, the innermost opening that has no ending.
     At {
@@ -29,7 +29,7 @@ impl From<NoMemory> for NestFault {
 }
 
 /// Why a file is not read.
-#[derive(Clone, Copy, Debug, PartialEq, Eq, Drop)]
+#[derive(Clone, Copy, Drop)]
 pub enum ParseFault {
     /// The first fault of the file.
     At {

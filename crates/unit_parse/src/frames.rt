@@ -12,7 +12,7 @@ use crate::words::{fits_name, is_construct, same_word};
 use ftn_tree::{EndWord, Title, Tokens};
 
 /// An opening without an ending.
-#[derive(Debug, Drop)]
+#[derive(Drop)]
 pub struct Frame {
     /// The number of its statement.
     pub opening: u32,

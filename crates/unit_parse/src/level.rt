@@ -12,7 +12,7 @@ use std::alloc::Global;
 use std::mem;
 
 /// What is open around the next statement, and what it holds so far.
-#[derive(Debug, Drop)]
+#[derive(Drop)]
 pub struct Level {
     /// What it is.
     pub region: Region,

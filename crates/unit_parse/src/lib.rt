@@ -9,8 +9,6 @@ mod level;
 mod nesting;
 mod order;
 mod statements;
-#[cfg(test)]
-mod tests;
 mod words;
 
 pub use fault::{NestFault, ParseFault};

@@ -22,7 +22,7 @@ use std::mem;
 const MOST_CONSTRUCTS: usize = 100;
 
 /// The nesting of the statements that were taken so far.
-#[derive(Debug, Drop)]
+#[derive(Drop)]
 pub struct Nesting {
     alloc: Global,
     here: Level,

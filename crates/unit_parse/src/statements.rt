@@ -15,7 +15,7 @@ use sqlite_items::Items;
 use std::alloc::Global;
 
 /// The statements that were read so far, and how they nest.
-#[derive(Debug, Drop)]
+#[derive(Drop)]
 pub struct Reading {
     /// The statements in their order.
     pub statements: Items<Statement>,

@@ -9,7 +9,7 @@ use sqlite_items::Items;
 use std::alloc::Global;
 
 /// The PUBLIC and PRIVATE statements of a module (5.2.3).
-#[derive(Debug, Drop)]
+#[derive(Drop)]
 pub struct Access {
     /// Whether a name that stands in neither list is public.
     pub default_public: bool,

@@ -16,7 +16,7 @@ use std::hash::{Hash, Hasher};
 use std::marker::Model;
 
 /// An entity as a part of a key.
-#[derive(Debug, Drop)]
+#[derive(Drop)]
 struct Known {
     entity: EntityId,
 }

@@ -6,8 +6,6 @@ mod given;
 mod groups;
 mod name_set;
 mod table;
-#[cfg(test)]
-mod tests;
 mod uses;
 
 pub use access::{Access, exports};

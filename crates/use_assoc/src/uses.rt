@@ -22,7 +22,7 @@ use std::alloc::Global;
 use thiserror::Error;
 
 /// An item of a USE statement. Without `=>` both names are the same.
-#[derive(Debug, Drop)]
+#[derive(Drop)]
 pub struct UseItem {
     /// The name in the scoping unit.
     pub local: Name,
@@ -31,7 +31,7 @@ pub struct UseItem {
 }
 
 /// A USE statement.
-#[derive(Debug, Drop)]
+#[derive(Drop)]
 pub struct UseList {
     /// The number of its module.
     pub module: u32,
@@ -42,7 +42,7 @@ pub struct UseList {
 }
 
 /// Why USE statements make nothing accessible.
-#[derive(Clone, Copy, Debug, PartialEq, Eq, Error)]
+#[derive(Clone, Copy, Debug, Error)]
 pub enum UseFault {
     /// An item whose source its module doesn't export, by the numbers of its list and in it of the item.
     #[error("NotPublic")]

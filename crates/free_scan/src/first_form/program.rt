@@ -4,7 +4,7 @@ use ftn_base::Name;
 use sqlite_items::Items;
 
 /// An operand of an expression.
-#[derive(Debug, Drop)]
+#[derive(Drop)]
 pub enum Operand {
     /// A reference to a variable (6.1).
     Variable(Name),
@@ -13,7 +13,7 @@ pub enum Operand {
 }
 
 /// An operator between two operands (7.1.1.3).
-#[derive(Clone, Copy, Debug, PartialEq, Eq)]
+#[derive(Clone, Copy)]
 pub enum Sign {
     /// `+`
     Plus,
@@ -22,7 +22,7 @@ pub enum Sign {
 }
 
 /// An operator and its right operand.
-#[derive(Debug, Drop)]
+#[derive(Drop)]
 pub struct Term {
     /// The operator.
     pub sign: Sign,
@@ -31,7 +31,7 @@ pub struct Term {
 }
 
 /// An expression: a chain of operands, which associates to the left (7.1.3).
-#[derive(Debug, Drop)]
+#[derive(Drop)]
 pub struct Sum {
     /// The first operand.
     pub first: Operand,
@@ -40,7 +40,7 @@ pub struct Sum {
 }
 
 /// An executable statement.
-#[derive(Debug, Drop)]
+#[derive(Drop)]
 pub enum Statement {
     /// `target = value` (7.5.1).
     Assign {
@@ -54,7 +54,7 @@ pub enum Statement {
 }
 
 /// A main program in first form (11.1).
-#[derive(Debug, Drop)]
+#[derive(Drop)]
 pub struct Program {
     /// The name of the program.
     pub name: Name,

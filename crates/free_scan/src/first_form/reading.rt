@@ -22,7 +22,7 @@ use sqlite_items::Items;
 use std::alloc::Global;
 
 /// A text in first form: its tokens, and the program that it spells.
-#[derive(Debug, Drop)]
+#[derive(Drop)]
 pub struct FirstForm {
     /// The tokens.
     pub tokens: Items<Token>,

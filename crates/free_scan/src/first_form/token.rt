@@ -16,7 +16,7 @@ use sqlite_items::Items;
 use std::alloc::Global;
 
 /// What a piece of a text is. One that is no blank, no comment and no end of a line is a token.
-#[derive(Clone, Copy, Debug, PartialEq, Eq)]
+#[derive(Clone, Copy)]
 pub enum PieceKind {
     /// One blank.
     Blank,
@@ -33,7 +33,7 @@ pub enum PieceKind {
 }
 
 /// A token or the end of a line, with its place.
-#[derive(Debug, Drop)]
+#[derive(Drop)]
 pub struct PlacedPiece {
     /// What it is.
     pub kind: PieceKind,

@@ -7,7 +7,7 @@ use crate::free_form::line::{code_of, indent, is_lone, is_outside, leads};
 use std::marker::Model;
 
 /// What a line that goes on carries over to the next one. Contracts see its parts.
-#[derive(Debug, Drop)]
+#[derive(Drop)]
 pub(crate) struct Carried {
     /// The quote that is open.
     pub(crate) quote: Option<u8>,

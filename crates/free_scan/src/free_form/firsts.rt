@@ -9,7 +9,7 @@ use ftn_base::FaultKind;
 use std::marker::Model;
 
 /// The first place at which a text is found to break a rule, in bytes, and the rule. Contracts see both.
-#[derive(Debug, Drop)]
+#[derive(Drop)]
 pub(crate) struct Firsts {
     found: Option<(u32, FaultKind)>,
 }

@@ -86,7 +86,7 @@ fn read_code(
 }
 
 /// What was read of a text.
-#[derive(Debug, Drop)]
+#[derive(Drop)]
 pub(crate) struct Reader {
     /// What was found in statements.
     pub(crate) scanner: Scanner,

@@ -19,7 +19,7 @@ use std::marker::Model;
 
 /// Bytes of a text that no continuation parts, each with its place. Contracts see the bytes and the places, which are as
 /// many.
-#[derive(Debug, Drop)]
+#[derive(Drop)]
 pub(crate) struct Run {
     bytes: Vec<u8>,
     spots: Vec<Spot>,

@@ -19,7 +19,7 @@ use std::alloc::Global;
 use std::marker::Model;
 
 /// What a scan found so far. Contracts see it but for the allocator.
-#[derive(Debug, Drop)]
+#[derive(Drop)]
 pub(crate) struct Scanner {
     alloc: Global,
     edition: Edition,
@@ -54,7 +54,7 @@ fn ends_statement(quote: Option<u8>, byte: u8) -> bool
 }
 
 /// What a scan found.
-#[derive(Debug, Drop)]
+#[derive(Drop)]
 pub(crate) struct Parts {
     /// The tokens.
     pub(crate) items: Items<Token>,
@@ -65,7 +65,7 @@ pub(crate) struct Parts {
 }
 
 /// What holds after bytes of a line.
-#[derive(Debug, Drop)]
+#[derive(Drop)]
 pub(crate) struct TextEnd {
     /// The quote that is open.
     pub(crate) quote: Option<u8>,

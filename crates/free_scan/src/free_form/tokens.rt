@@ -132,7 +132,7 @@ fn read_text<L>(
 }
 
 /// Why a text has no tokens.
-#[derive(Clone, Copy, Debug, PartialEq, Eq)]
+#[derive(Clone, Copy)]
 pub enum ScanFault {
     /// It breaks a rule of free source form first at this offset, in bytes.
     At {

@@ -8,7 +8,7 @@ use ftn_base::NoMemory;
 use std::alloc::{AllocError, AllocFailed};
 
 /// Why a run ends before its program does.
-#[derive(Clone, Copy, Debug, PartialEq, Eq)]
+#[derive(Clone, Copy)]
 pub(crate) enum Halt {
     /// It faulted, or its steps are spent.
     Ended(Outcome),

@@ -9,7 +9,7 @@ use std::alloc::Global;
 use std::marker::Model;
 
 /// Names with the numbers that were stored under them. Contracts see them as a list, the newest first.
-#[derive(Debug, Drop)]
+#[derive(Drop)]
 pub(crate) struct Memory {
     stored: Vec<(Name, i64)>,
 }

@@ -1,6 +1,0 @@
-use Rattle.std.proofs.Common.{take, All}
-use Rattle.equiv_class.specs.Sound.{IsWithin}
-use Rattle.equiv_class.proofs.tests.are_within.Given as goal
-
-abbrev pub invariant-loop-tie : goal.invariant-loop-tie
-invariant-loop-tie l = All (IsWithin l.sizes) (take l.tie-index l.ties)

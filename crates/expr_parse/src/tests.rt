@@ -1,7 +1,0 @@
-//! Expressions that are read, and such that are not.
-
-mod print;
-mod reading;
-mod splits;
-mod trees;
-mod words;

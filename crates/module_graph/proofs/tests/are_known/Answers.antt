@@ -1,5 +1,0 @@
-use Rattle.module_graph.proofs.Known.{lists_known}
-use Rattle.module_graph.proofs.tests.are_known.Goals as goal
-
-pub returns : goal.returns
-returns c = λ _. lists_known c.args.uses.now c.loop-list.list-index c.loop-list-test.false c.loop-list.invariant

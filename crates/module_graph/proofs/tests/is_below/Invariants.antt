@@ -1,5 +1,0 @@
-use Rattle.std.proofs.Common.{◌<◌, All, take}
-use Rattle.module_graph.proofs.tests.is_below.Given as goal
-
-abbrev pub invariant-loop-used : goal.invariant-loop-used
-invariant-loop-used l = All (λ used. used < l.count) (take l.used-index l.list)
