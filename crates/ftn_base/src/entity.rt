@@ -8,7 +8,7 @@ use std::alloc::Global;
 use std::marker::Model;
 
 /// The length of a character entity, in characters (4.3.2.1).
-#[derive(Clone, Copy)]
+#[derive(Clone, Copy, PartialEq, Eq)]
 pub enum Length {
     /// That many characters.
     Fixed(u32),
@@ -17,7 +17,7 @@ pub enum Length {
 }
 
 /// A type of the profile (4.3): default integer, default logical or default character.
-#[derive(Clone, Copy)]
+#[derive(Clone, Copy, PartialEq, Eq)]
 pub enum Ty {
     /// INTEGER, of 32 bits.
     Integer,

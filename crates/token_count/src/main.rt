@@ -45,7 +45,7 @@ fn main(rt: HostRuntime) -> ExitCode {
         Answer::Counts(tokens, statements, lines) => {
             println!(&rt; "{tokens} tokens, {statements} statements, {lines} lines")
         }
-        Answer::Broken(kind, at) => println!(&rt; "{kind:?} at {at}"),
+        Answer::Broken(kind, at) => println!(&rt; "{} at {at}", kind.name()),
         Answer::TooLong => println!(&rt; "too long"),
         Answer::NoMemory => println!(&rt; "no memory"),
         Answer::NoInput => println!(&rt; "no input"),
