@@ -1,5 +1,5 @@
 use Rattle.ftn_tool.proofs.Promising.{misread_promised}
-use Rattle.ftn_tool.proofs.tool.tool.Goals as goal
+use Rattle.ftn_tool.proofs.top.tool.Goals as goal
 
 pub returns-in-Err-Bad-clause-promises : goal.returns-in-Err-Bad-clause-promises
 returns-in-Err-Bad-clause-promises g c =

@@ -1,22 +1,13 @@
 //! `ftn_tool`: refactorings of projects of Fortran 90 files, each with a proof that every result stays.
 #![tactic(auto)]
 
-mod apply;
 mod arguments;
-mod carry;
-mod checking;
-mod command;
 mod help;
-mod limit;
-mod lines;
-mod project;
-mod reply;
-mod tool;
 
 use crate::arguments::words_of;
 use crate::help::{HELP, HINT, VERSION, asks_for_help, asks_for_version};
-use crate::tool::tool;
 use ftn_base::Status;
+use ftn_tool::tool;
 use std::io;
 use std::process::ExitCode;
 use store_io::{DirStore, StdSink, StdSource};
