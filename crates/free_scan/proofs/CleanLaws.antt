@@ -11,7 +11,8 @@ use Rattle.free_scan.specs.Clean.{are_distinct, is_among, is_clean, is_free_name
 use Rattle.free_scan.specs.Fresh.{are_fresh}
 use Rattle.free_scan.specs.Spelling.{is_some_row}
 use Rattle.ftn_base.specs.Keywords.{is_keyword, is_intrinsic}
-use Rattle.ftn_base.specs.Names.{is_name, name_limit}
+use Rattle.ftn_base.specs.Limits.{name_limit}
+use Rattle.ftn_base.specs.Names.{is_name}
 use Rattle.ftn_base.specs.declared.name.Edition.TheVariants.{F90}
 use Rattle.free_scan.specs.declared.first_form.program.Program.{Program}
 use Rattle.free_scan.specs.declared.first_form.program.Statement.{Statement}

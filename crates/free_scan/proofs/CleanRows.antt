@@ -8,7 +8,8 @@ use Rattle.std.proofs.lemmas.List.Concat.{flat_map-cons}
 use Rattle.std.proofs.lemmas.Slice.Eq.{bytes_eq-Decides}
 use Rattle.ftn_base.specs.Keywords.{is_keyword, is_intrinsic}
 use Rattle.ftn_base.specs.Letters.{folded}
-use Rattle.ftn_base.specs.Names.{is_name, name_limit}
+use Rattle.ftn_base.specs.Limits.{name_limit}
+use Rattle.ftn_base.specs.Names.{is_name}
 use Rattle.ftn_base.specs.declared.name.Edition.TheVariants.{F90}
 use Rattle.free_scan.specs.Clean.{are_distinct, is_among, is_clean, is_free_name, operand_fits, operand_names, statement_fits, statement_names, sum_fits, sum_names, variables}
 use Rattle.free_scan.specs.Spelling.{Lexeme, word, whole, mark, commas, is_some_row, spell_declaration, spell_operand, spell_program, spell_sign, spell_statement, spell_sum, spell_terms}

@@ -3,7 +3,8 @@ use Rattle.std.specs.Prelude.{ℕ, Bool, true, not, ◌&&◌, nat_le, List, [], 
 use Rattle.std.specs.List.{list_all, list_any, flat_map}
 use Rattle.std.specs.Str.{bytes_eq}
 use Rattle.ftn_base.specs.Keywords.{is_keyword, is_intrinsic}
-use Rattle.ftn_base.specs.Names.{is_name, name_limit}
+use Rattle.ftn_base.specs.Limits.{name_limit}
+use Rattle.ftn_base.specs.Names.{is_name}
 use Rattle.ftn_base.specs.declared.name.Edition.TheVariants.{F90}
 use Rattle.free_scan.specs.declared.first_form.program.Operand.{Operand}
 use Rattle.free_scan.specs.declared.first_form.program.Operand.TheVariants as operands

@@ -6,10 +6,8 @@ use Rattle.std.proofs.lemmas.Bool.{and_parts, and_from, or_right, or_parts}
 use Rattle.std.proofs.lemmas.Bool.Decides.{nat_tests}
 use Rattle.std.proofs.lemmas.List.{length-map}
 use Rattle.std.proofs.lemmas.Slice.Eq.{bytes_eq-Decides}
-use Rattle.ftn_base.specs.declared.name.Edition.{Edition}
-use Rattle.ftn_base.specs.declared.name.Edition.TheVariants.{F90}
 use Rattle.ftn_base.specs.Letters.{folded, fold_byte, is_letter, is_name_byte, is_upper, is_within}
-use Rattle.ftn_base.specs.Names.{is_folded_name, is_name, name_limit}
+use Rattle.ftn_base.specs.Names.{is_folded_name, is_name, is_name_text}
 
 fold_letter : (b : ℕ) → is_letter b ≡ true → is_letter (fold_byte b) ≡ true
 fold_letter b h = go (is_upper b) refl
@@ -40,15 +38,12 @@ fold_name_bytes (b ∷ rest) h =
     let p = and_parts (is_name_byte b) (list_all is_name_byte rest) h in
     and_from (is_name_byte (fold_byte b)) (list_all is_name_byte (folded rest)) (fold_name_byte b p.0) (fold_name_bytes rest p.1)
 
-fold_name : (limit : ℕ) (bytes : List ℕ) → is_name limit bytes ≡ true → is_name limit (folded bytes) ≡ true
+fold_name : (limit : ℕ) (bytes : List ℕ) → is_name limit bytes ≡ true → is_name_text (folded bytes) ≡ true
 fold_name limit [] name = name
 fold_name limit (b ∷ rest) name =
     let q = and_parts (is_letter b && nat_lt (length rest) limit) (list_all is_name_byte rest) name in
     let p = and_parts (is_letter b) (nat_lt (length rest) limit) q.0 in
-    let short : nat_lt (length (folded rest)) limit ≡ true = ap (λ (n : ℕ). nat_lt n limit) (length-map rest fold_byte) ∙ p.1 in
-    and_from (is_letter (fold_byte b) && nat_lt (length (folded rest)) limit) (list_all is_name_byte (folded rest))
-    (and_from (is_letter (fold_byte b)) (nat_lt (length (folded rest)) limit) (fold_letter b p.0) short)
-    (fold_name_bytes rest q.1)
+    and_from (is_letter (fold_byte b)) (list_all is_name_byte (folded rest)) (fold_letter b p.0) (fold_name_bytes rest q.1)
 
 fold_byte_twice : (b : ℕ) → fold_byte (fold_byte b) ≡ fold_byte b
 fold_byte_twice b = grind (arith, nat_tests)
@@ -57,9 +52,9 @@ pub folded_twice : (bytes : List ℕ) → folded (folded bytes) ≡ folded bytes
 folded_twice [] = refl
 folded_twice (b ∷ rest) = ap (λ x. x ∷ folded (folded rest)) (fold_byte_twice b) ∙ ap (λ xs. fold_byte b ∷ xs) (folded_twice rest)
 
--- a name of an edition, folded
-pub folded_is_name : (edition : Edition) (bytes : List ℕ) → is_name (name_limit edition) bytes ≡ true → IsTrue (is_folded_name (folded bytes))
-folded_is_name F90 bytes name =
-    and_from (is_name 31 (folded bytes)) (bytes_eq (folded (folded bytes)) (folded bytes))
-    (fold_name 31 bytes name)
+-- a name of whatever length, folded
+pub folded_is_name : (limit : ℕ) (bytes : List ℕ) → is_name limit bytes ≡ true → IsTrue (is_folded_name (folded bytes))
+folded_is_name limit bytes name =
+    and_from (is_name_text (folded bytes)) (bytes_eq (folded (folded bytes)) (folded bytes))
+    (fold_name limit bytes name)
     ((bytes_eq-Decides (folded (folded bytes)) (folded bytes)).1 (folded_twice bytes))

@@ -1,3 +1,4 @@
+pub mod Limits
 pub mod Letters
 pub mod Names
 pub mod Places

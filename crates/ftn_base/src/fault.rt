@@ -77,6 +77,8 @@ pub enum FaultKind {
     SortMismatch,
     /// A named block of two sizes (5.5.2.4).
     CommonSize,
+    /// A unit that two values are given to at the start (5.2.9).
+    InitialTwice,
     /// No main program.
     NoMain,
     /// A second main program (2.1).
@@ -136,6 +138,7 @@ impl FaultKind {
             FaultKind::TwoBlocks => "TwoBlocks",
             FaultKind::SortMismatch => "SortMismatch",
             FaultKind::CommonSize => "CommonSize",
+            FaultKind::InitialTwice => "InitialTwice",
             FaultKind::NoMain => "NoMain",
             FaultKind::TwoMains => "TwoMains",
             FaultKind::NotBuilt => "NotBuilt",

@@ -8,10 +8,12 @@ ghost use Rattle.std.specs.Ordering.{as_partial_cmp, nat_cmp};
 ghost use Rattle.std.specs.Prelude.{◌≡◌, ◌==◌, ◌↔◌, IfOk, IsErrOf, IsTrue, false};
 ghost use Rattle.std.proofs.Common.{rules};
 ghost use Rattle.ftn_base.specs.Letters.{folded as folded_of};
+ghost use Rattle.ftn_base.specs.Limits.{name_limit};
 ghost use Rattle.ftn_base.specs.Names as spec;
 ghost use Rattle.ftn_base.specs.declared.name.NameFault.TheVariants.{NoMemory as no_memory};
 
 use crate::letters::{folded, is_letter, is_name_byte};
+use crate::limits::name_limit;
 use crate::memory::NoMemory;
 use std::alloc::{AllocError, Global};
 use std::cmp::Ordering;
@@ -24,6 +26,9 @@ use thiserror::Error;
 pub enum Edition {
     /// ISO/IEC 1539:1991, Fortran 90.
     F90,
+    /// This project's second edition: names of up to 63 bytes, and up to 255 lines that continue a statement. It says
+    /// nothing about a standard.
+    F2003,
 }
 
 /// Why no name was made of bytes.
@@ -53,18 +58,9 @@ impl From<NoMemory> for NameFault {
     }
 }
 
-/// How many bytes a name of the edition may have (3.2.1).
-pub fn name_limit(edition: Edition) -> usize
-    ensures { result ≡ spec.name_limit edition }
-{
-    match edition {
-        Edition::F90 => 31,
-    }
-}
-
 /// Whether the bytes are a name of the edition: a letter, then letters, digits and underscores (3.2.1).
 pub fn is_name(bytes: &[u8], edition: Edition) -> bool
-    ensures { result ≡ spec.is_name (spec.name_limit edition) bytes.now }
+    ensures { result ≡ spec.is_name (name_limit edition) bytes.now }
 {
     match bytes {
         [] => false,
@@ -103,7 +99,7 @@ impl Name {
     pub fn new(alloc: Global, bytes: &[u8], edition: Edition) -> Result<Name, NameFault>
         ensures name { IfOk result (λ name. name ≡ folded_of bytes.now) }
         ensures not_a_name { IsErrOf result NameFault.NotAName
-            ↔ (spec.is_name (spec.name_limit edition) bytes.now ≡ false) }
+            ↔ (spec.is_name (name_limit edition) bytes.now ≡ false) }
     {
         if !is_name(bytes, edition) {
             return Err(NameFault::NotAName);

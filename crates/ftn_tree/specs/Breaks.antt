@@ -1,9 +1,8 @@
 -- Where a text breaks a rule of source form (Fortran 90, 3.1 to 3.3).
 use Rattle.std.specs.Prelude.{◌≡◌, ℕ, ◌+◌, ◌*◌, ◌-◌, ◌<◌, ◌≤◌, ◌⊎◌, Bool, true, false, ◌==◌, nat_lt, List, [], ◌∷◌, ◌++◌, fold, length, Option, Some, None}
 use Rattle.std.specs.List.{flat_map}
-use Rattle.ftn_base.specs.Names.{name_limit}
+use Rattle.ftn_base.specs.Limits.{continuation_limit, name_limit}
 use Rattle.ftn_base.specs.declared.name.Edition.{Edition}
-use Rattle.ftn_base.specs.declared.name.Edition.TheVariants.{F90}
 use Rattle.ftn_base.specs.declared.fault.FaultKind.{FaultKind}
 use Rattle.ftn_base.specs.declared.fault.FaultKind.TheVariants as kinds
 use Rattle.ftn_tree.specs.declared.token.TokenKind.TheVariants as tokens
@@ -26,10 +25,6 @@ only_if false breach = []
 -- 3.3.1: how many bytes a line may have before its end
 abbrev pub line_limit : ℕ
 line_limit = 132
-
--- 3.3.1.3: how many lines may continue a statement
-abbrev pub continuation_limit : Edition → ℕ
-continuation_limit F90 = 39
 
 -- the greatest whole number (this project's own)
 abbrev pub greatest : ℕ

@@ -5,7 +5,8 @@ use Rattle.std.specs.Str.{bytes_eq}
 use Rattle.std.proofs.lemmas.Bool.{cond-true, cond-false}
 use Rattle.ftn_base.specs.Keywords.{is_keyword, is_intrinsic}
 use Rattle.ftn_base.specs.Letters.{folded}
-use Rattle.ftn_base.specs.Names.{is_name, name_limit}
+use Rattle.ftn_base.specs.Limits.{name_limit}
+use Rattle.ftn_base.specs.Names.{is_name}
 use Rattle.ftn_base.specs.declared.name.Edition.TheVariants.{F90}
 use Rattle.ftn_tree.specs.declared.token.Token.{Token}
 use Rattle.free_scan.specs.Lines.{lines}

@@ -1,7 +1,6 @@
 //! Reading the lines of a text one after another.
 
 ghost use Rattle.std.specs.Prelude.{◌≡◌, ◌<◌, ◌≤◌, ◌+◌, ◌^◌, if◌then◌else◌, List, [], ◌∷◌, ◌++◌, Some, None, OnOk, IfOk, IfSome, length};
-ghost use Rattle.ftn_tree.specs.Breaks as breaks;
 ghost use Rattle.ftn_tree.specs.Breaks.{line_breaches, long_line};
 ghost use Rattle.ftn_tree.specs.Lines.{Line};
 ghost use Rattle.ftn_tree.specs.Logical.{after_line, line_glyphs};
@@ -13,21 +12,12 @@ use crate::free_form::carried::{Carried, count_at, is_gap, open_at, said, skippe
 use crate::free_form::firsts::Firsts;
 use crate::free_form::line::{before_mark, goes_on, indent, is_comment};
 use crate::free_form::scanner::{Scanner, TextEnd};
-use ftn_base::{Edition, FaultKind, NoMemory};
+use ftn_base::{Edition, FaultKind, NoMemory, continuation_limit};
 use sqlite_items::Items;
 use std::alloc::Global;
 
 /// How many bytes a line may have before its end (3.3.1).
 const LINE_LIMIT: usize = 132;
-
-/// How many lines may continue a statement (3.3.1.3).
-fn continuation_limit(edition: Edition) -> u32
-    ensures { result ≡ breaks.continuation_limit edition }
-{
-    match edition {
-        Edition::F90 => 39,
-    }
-}
 
 /// What a line carries over to the next one, if it goes on.
 fn carried_if(goes_on: bool, end: TextEnd, count: u32, mark: u32) -> Option<Carried>

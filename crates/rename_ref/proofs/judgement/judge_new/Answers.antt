@@ -1,6 +1,7 @@
 use Rattle.std.proofs.Common.{◌≡◌, true, ◌||◌, Some, None, IfOk, subst, ap, sym, ◌∙◌}
 use Rattle.ftn_base.specs.Keywords.{is_keyword, is_intrinsic}
-use Rattle.ftn_base.specs.Names.{is_name, name_limit}
+use Rattle.ftn_base.specs.Limits.{name_limit}
+use Rattle.ftn_base.specs.Names.{is_name}
 use Rattle.ftn_base.specs.declared.name.Edition.TheVariants.{F90}
 use Rattle.rename_ref.specs.declared.judgement.Judgement.{Judgement}
 use Rattle.rename_ref.proofs.Judged.{keyword_refused, free_judged}
