@@ -1,7 +1,6 @@
 //! Tokens, trees and tables of Fortran 90 source text, and the definitions that readers of it meet.
 #![tactic(auto)]
 
-mod class;
 mod expr;
 mod form;
 mod lexeme;
@@ -13,16 +12,16 @@ mod token;
 mod unit;
 mod value;
 
-pub use class::Class;
 pub use expr::{Expr, Part};
 pub use form::Form;
 pub use lexeme::Lexeme;
 pub use mark::{Content, Mark, Region, Section, Title};
 pub use parts::{
     AccessWord, ArrayDecl, Attribute, AttributeKind, BlockName, BoundPair, CaseRange, CharLength,
-    CommonGroup, CommonMember, Designator, DoControl, EndWord, Ending, EntityDecl, ImplicitType,
-    IntentMode, IoStyle, LeaveWord, LengthSelector, LengthValue, LetterGroup, LetterRange,
-    NamedConstant, OnlyItem, ProcedureWord, Rename, SaveItem, TypeSpec,
+    CommonGroup, CommonMember, DataConstant, DataGroup, DataValue, Designator, DoControl, EndWord,
+    Ending, EntityDecl, ImplicitType, IntentMode, IoStyle, LeaveWord, LengthSelector, LengthValue,
+    LetterGroup, LetterRange, NamedConstant, OnlyItem, ProcedureWord, Rename, Repeat, SaveItem,
+    Sign, TypeSpec,
 };
 pub use piece::{PieceKind, Spot};
 pub use table::{
