@@ -9,6 +9,7 @@ pub mod Expressions
 pub mod Classes
 pub mod Kinds
 pub mod Lexemes
+pub mod Operators
 pub mod Levels
 pub mod Trees
 pub mod Phrases

@@ -6,6 +6,7 @@ mod expr;
 mod form;
 mod lexeme;
 mod mark;
+mod operator;
 mod parts;
 mod piece;
 mod table;
@@ -18,6 +19,7 @@ pub use expr::{Expr, Part};
 pub use form::Form;
 pub use lexeme::Lexeme;
 pub use mark::{Content, Mark, Region, Section, Title};
+pub use operator::Operator;
 pub use parts::{
     AccessWord, ArrayDecl, Attribute, AttributeKind, BlockName, BoundPair, CaseRange, CharLength,
     CommonGroup, CommonMember, Designator, DoControl, EndWord, Ending, EntityDecl, ImplicitType,
