@@ -15,8 +15,8 @@ first_step (Expr-F.Whole token value) = token
 first_step (Expr-F.Truth token value) = token
 first_step (Expr-F.Quoted token value) = token
 first_step (Expr-F.Paren token inner) = token
-first_step (Expr-F.Unary op arg) = op
-first_step (Expr-F.Binary op left right) = left
+first_step (Expr-F.Unary op operator arg) = op
+first_step (Expr-F.Binary op operator left right) = left
 first_step (Expr-F.Refer name args part) = name
 
 abbrev pub first_token : Expr → ℕ
@@ -52,8 +52,8 @@ mentions_step (Expr-F.Whole token value) = []
 mentions_step (Expr-F.Truth token value) = []
 mentions_step (Expr-F.Quoted token value) = []
 mentions_step (Expr-F.Paren token inner) = inner
-mentions_step (Expr-F.Unary op arg) = arg
-mentions_step (Expr-F.Binary op left right) = left ++ right
+mentions_step (Expr-F.Unary op operator arg) = arg
+mentions_step (Expr-F.Binary op operator left right) = left ++ right
 mentions_step (Expr-F.Refer name args part) = mention name (role_with args) ∷ (none_or_all args ++ none_or_these part)
 
 abbrev pub part_mentions_step : Part-F (List Mention) (List Mention) → List Mention

@@ -5,7 +5,7 @@ use Rattle.ftn_tree.specs.declared.token.Token.{Token}
 use Rattle.ftn_tree.specs.declared.lexeme.Lexeme.{Lexeme}
 use Rattle.ftn_tree.specs.declared.lexeme.Lexeme.TheVariants as lexeme
 use Rattle.ftn_tree.specs.Lexemes.{lexeme_of}
-use Rattle.ftn_tree.specs.Levels.{Binding, between, before, loosest}
+use Rattle.ftn_tree.specs.Levels.{Binding, Prefix, between, before, loosest}
 use Rattle.ftn_tree.specs.Trees.{Tree, Trees, Args, Section, End, whole, truth, quoted, paren, unary, binary, refer, no_args, args, none, more, no_section, section, no_end, end, tree_of}
 use Rattle.ftn_tree.specs.Phrases.{Phrase, nothing, ◌·◌, token, mark, mark_at, name, in_parens, provided}
 use Rattle.ftn_tree.specs.Expressions.{is_reference}
@@ -15,9 +15,9 @@ use Rattle.ftn_tree.specs.Breaks.{number_of}
 abbrev pub IsBetween : Token → Binding → Type 0
 IsBetween here how = between (lexeme_of here) ≡ Some how
 
--- the token is an operator that makes an expression of that level of an operand of at most that one
-abbrev pub IsBefore : Token → ℕ → ℕ → Type 0
-IsBefore here level operand = before (lexeme_of here) ≡ Some (level, operand)
+-- the token is an operator that binds so before an operand
+abbrev pub IsBefore : Token → Prefix → Type 0
+IsBefore here how = before (lexeme_of here) ≡ Some how
 
 -- the logical constant (4.3.2.2)
 abbrev pub truth_lexeme : Bool → Lexeme
@@ -40,10 +40,11 @@ abbrev mutual
   Spells (truth number value) level at tokens = (level ≡ 0) × mark_at number (truth_lexeme value) at tokens
   Spells (quoted number value) level at tokens = (level ≡ 0) × token (λ at here. (number ≡ at) × (lexeme_of here ≡ lexeme.Quoted) × (value ≡ here.value)) at tokens
   Spells (paren number inner) level at tokens = (level ≡ 0) × (mark_at number lexeme.Open · some_level (Spells inner) · mark lexeme.Close) at tokens
-  Spells (unary number operand) level at tokens =
-      (k : ℕ) × (limit : ℕ) × (k ≤ limit) × (token (λ at here. (number ≡ at) × IsBefore here level limit) · Spells operand k) at tokens
-  Spells (binary number left right) level at tokens =
-      (how : Binding) × (level ≡ how.level) × (j : ℕ) × (j ≤ how.left) × (k : ℕ) × (k ≤ how.right)
+  Spells (unary number operator operand) level at tokens =
+      (how : Prefix) × (operator ≡ how.operator) × (level ≡ how.level) × (k : ℕ) × (k ≤ how.operand)
+      × (token (λ at here. (number ≡ at) × IsBefore here how) · Spells operand k) at tokens
+  Spells (binary number operator left right) level at tokens =
+      (how : Binding) × (operator ≡ how.operator) × (level ≡ how.level) × (j : ℕ) × (j ≤ how.left) × (k : ℕ) × (k ≤ how.right)
       × (Spells left j · token (λ at here. (number ≡ at) × IsBetween here how) · Spells right k) at tokens
   Spells (refer number given part) level at tokens = (level ≡ 0) × (name number · SpellsArgs given · SpellsSection part) at tokens
 

@@ -7,7 +7,7 @@ use Rattle.ftn_tree.specs.declared.token.Token.{Token}
 use Rattle.ftn_tree.specs.declared.token.TokenKind.{TokenKind}
 use Rattle.ftn_tree.specs.declared.token.TokenKind.TheVariants as tokens
 use Rattle.ftn_tree.specs.declared.lexeme.Lexeme.{Lexeme}
-use Rattle.ftn_tree.specs.declared.lexeme.Lexeme.TheVariants.{Word, Whole, Quoted, True, False, Power, Times, Divide, Plus, Minus, Concat, Relation, Not, And, Or, Equivalence, Open, Close, Comma, Colon, Colons, Equals, Arrow, Foreign}
+use Rattle.ftn_tree.specs.declared.lexeme.Lexeme.TheVariants.{Word, Whole, Quoted, True, False, Power, Times, Divide, Plus, Minus, Concat, Eq, Ne, Lt, Le, Gt, Ge, Not, And, Or, Eqv, Neqv, Open, Close, Comma, Colon, Colons, Equals, Arrow, Foreign}
 
 unfoldable pub same_lexeme : Lexeme → Lexeme → Bool
 same_lexeme = sameb the_type
@@ -15,22 +15,28 @@ same_lexeme = sameb the_type
 abbrev pub is_text : List ℕ → List ℕ → Bool
 is_text value text = bytes_eq value text
 
-abbrev pub is_relation_word : List ℕ → Bool
-is_relation_word value =
-    is_text value (codes ".eq.") || is_text value (codes ".ne.") || is_text value (codes ".lt.")
-    || is_text value (codes ".le.") || is_text value (codes ".gt.") || is_text value (codes ".ge.")
-
--- letters between two points (3.2.3, 4.3.2.2)
-abbrev pub dotted : List ℕ → Lexeme
-dotted value =
-    if is_relation_word value then Relation
-    else if is_text value (codes ".and.") then And
+-- an operator on logical values, or a logical constant
+abbrev pub logical : List ℕ → Lexeme
+logical value =
+    if is_text value (codes ".and.") then And
     else if is_text value (codes ".or.") then Or
     else if is_text value (codes ".not.") then Not
     else if is_text value (codes ".true.") then True
     else if is_text value (codes ".false.") then False
-    else if is_text value (codes ".eqv.") || is_text value (codes ".neqv.") then Equivalence
+    else if is_text value (codes ".eqv.") then Eqv
+    else if is_text value (codes ".neqv.") then Neqv
     else Foreign
+
+-- letters between two points (3.2.3, 4.3.2.2)
+abbrev pub dotted : List ℕ → Lexeme
+dotted value =
+    if is_text value (codes ".eq.") then Eq
+    else if is_text value (codes ".ne.") then Ne
+    else if is_text value (codes ".lt.") then Lt
+    else if is_text value (codes ".le.") then Le
+    else if is_text value (codes ".gt.") then Gt
+    else if is_text value (codes ".ge.") then Ge
+    else logical value
 
 -- a mark of one byte: ( ) , : = * / + - < >
 abbrev pub one_byte : ℕ → Lexeme
@@ -44,7 +50,8 @@ one_byte byte =
     else if byte == 47 then Divide
     else if byte == 43 then Plus
     else if byte == 45 then Minus
-    else if byte == 60 || byte == 62 then Relation
+    else if byte == 60 then Lt
+    else if byte == 62 then Gt
     else Foreign
 
 -- a mark of two bytes: ** // == /= <= >= :: =>
@@ -52,7 +59,10 @@ abbrev pub two_bytes : ℕ → ℕ → Lexeme
 two_bytes first second =
     if first == 42 && second == 42 then Power
     else if first == 47 && second == 47 then Concat
-    else if (first == 61 || first == 47 || first == 60 || first == 62) && second == 61 then Relation
+    else if first == 61 && second == 61 then Eq
+    else if first == 47 && second == 61 then Ne
+    else if first == 60 && second == 61 then Le
+    else if first == 62 && second == 61 then Ge
     else if first == 58 && second == 58 then Colons
     else if first == 61 && second == 62 then Arrow
     else Foreign

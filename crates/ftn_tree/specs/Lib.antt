@@ -8,6 +8,7 @@ pub mod Layers
 pub mod Expressions
 pub mod Kinds
 pub mod Lexemes
+pub mod Operators
 pub mod Levels
 pub mod Trees
 pub mod Phrases

@@ -1,6 +1,7 @@
 -- Expressions as plain trees (Fortran 90, 7.1). Each number is that of a token.
 use Rattle.std.specs.Prelude.{ℕ, ℤ, Bool, List, [], ◌∷◌, Option, Some, None}
 use Rattle.ftn_tree.specs.declared.expr.Expr.{Expr, fold-Expr}
+use Rattle.ftn_tree.specs.declared.operator.Operator.{Operator}
 use Rattle.ftn_tree.specs.declared.expr.Expr.TheOpen.{Expr-F, Part-F}
 
 mutual
@@ -9,8 +10,8 @@ mutual
     truth : ℕ → Bool → Tree
     quoted : ℕ → List ℕ → Tree
     paren : ℕ → Tree → Tree
-    unary : ℕ → Tree → Tree
-    binary : ℕ → Tree → Tree → Tree
+    unary : ℕ → Operator → Tree → Tree
+    binary : ℕ → Operator → Tree → Tree → Tree
     -- a name, its list in parentheses, its substring range
     refer : ℕ → Args → Section → Tree
 
@@ -51,8 +52,8 @@ tree_step (Expr-F.Whole token value) = whole token value
 tree_step (Expr-F.Truth token value) = truth token value
 tree_step (Expr-F.Quoted token value) = quoted token value
 tree_step (Expr-F.Paren token inner) = paren token inner
-tree_step (Expr-F.Unary op arg) = unary op arg
-tree_step (Expr-F.Binary op left right) = binary op left right
+tree_step (Expr-F.Unary op operator arg) = unary op operator arg
+tree_step (Expr-F.Binary op operator left right) = binary op operator left right
 tree_step (Expr-F.Refer name given part) = refer name (args_of given) (section_of part)
 
 abbrev pub part_step : Part-F Tree Section → Section

@@ -3,6 +3,7 @@
 ghost use Rattle.std.specs.Prelude.{◌≡◌, ◌++◌, OnOk};
 ghost use Rattle.ftn_tree.specs.Expressions as spec;
 
+use crate::operator::Operator;
 use crate::table::{Mention, Role};
 use ftn_base::{Bytes, NoMemory};
 use sqlite_items::{Boxed, Items};
@@ -41,15 +42,19 @@ pub enum Expr {
     },
     /// A sign or `.NOT.` and its operand (7.1.1.3, 7.1.1.6).
     Unary {
-        /// The operator.
+        /// The token of the operator.
         op: u32,
+        /// Which operator it is.
+        operator: Operator,
         /// The operand.
         arg: Boxed<Expr>,
     },
     /// An operator between two operands (7.1.1.3 to 7.1.1.6).
     Binary {
-        /// The operator.
+        /// The token of the operator.
         op: u32,
+        /// Which operator it is.
+        operator: Operator,
         /// The operand before it.
         left: Boxed<Expr>,
         /// The operand after it.

@@ -5,8 +5,7 @@ ghost use Rattle.ftn_tree.specs.Lexemes as spec;
 
 use crate::token::{Token, TokenKind};
 
-/// What a token is in the grammar (Fortran 90, 3.2). Operators that bind alike and differ in nothing else that the grammar asks
-/// are one.
+/// What a token is in the grammar (Fortran 90, 3.2). Two spellings of one operator are one (7.1.3).
 #[derive(Clone, Copy)]
 pub enum Lexeme {
     /// A name or a word of a statement.
@@ -31,16 +30,28 @@ pub enum Lexeme {
     Minus,
     /// `//`.
     Concat,
-    /// `==`, `.LT.` and the like.
-    Relation,
+    /// `==` or `.EQ.`.
+    Eq,
+    /// `/=` or `.NE.`.
+    Ne,
+    /// `<` or `.LT.`.
+    Lt,
+    /// `<=` or `.LE.`.
+    Le,
+    /// `>` or `.GT.`.
+    Gt,
+    /// `>=` or `.GE.`.
+    Ge,
     /// `.NOT.`, before an operand.
     Not,
     /// `.AND.`.
     And,
     /// `.OR.`.
     Or,
-    /// `.EQV.` or `.NEQV.`.
-    Equivalence,
+    /// `.EQV.`.
+    Eqv,
+    /// `.NEQV.`.
+    Neqv,
     /// `(`.
     Open,
     /// `)`.
@@ -100,23 +111,30 @@ fn is_text(value: &[u8], text: &[u8]) -> bool
     value == text
 }
 
-fn is_relation(value: &[u8]) -> bool
-    ensures { result ≡ spec.is_relation_word value.now }
-{
-    is_text(value, b".eq.")
-        || is_text(value, b".ne.")
-        || is_text(value, b".lt.")
-        || is_text(value, b".le.")
-        || is_text(value, b".gt.")
-        || is_text(value, b".ge.")
-}
-
 fn dotted(value: &[u8]) -> Lexeme
     ensures { result ≡ spec.dotted value.now }
 {
-    if is_relation(value) {
-        Lexeme::Relation
-    } else if is_text(value, b".and.") {
+    if is_text(value, b".eq.") {
+        Lexeme::Eq
+    } else if is_text(value, b".ne.") {
+        Lexeme::Ne
+    } else if is_text(value, b".lt.") {
+        Lexeme::Lt
+    } else if is_text(value, b".le.") {
+        Lexeme::Le
+    } else if is_text(value, b".gt.") {
+        Lexeme::Gt
+    } else if is_text(value, b".ge.") {
+        Lexeme::Ge
+    } else {
+        logical(value)
+    }
+}
+
+fn logical(value: &[u8]) -> Lexeme
+    ensures { result ≡ spec.logical value.now }
+{
+    if is_text(value, b".and.") {
         Lexeme::And
     } else if is_text(value, b".or.") {
         Lexeme::Or
@@ -126,8 +144,10 @@ fn dotted(value: &[u8]) -> Lexeme
         Lexeme::True
     } else if is_text(value, b".false.") {
         Lexeme::False
-    } else if is_text(value, b".eqv.") || is_text(value, b".neqv.") {
-        Lexeme::Equivalence
+    } else if is_text(value, b".eqv.") {
+        Lexeme::Eqv
+    } else if is_text(value, b".neqv.") {
+        Lexeme::Neqv
     } else {
         Lexeme::Foreign
     }
@@ -156,7 +176,8 @@ fn one_byte(byte: u8) -> Lexeme
         b'/' => Lexeme::Divide,
         b'+' => Lexeme::Plus,
         b'-' => Lexeme::Minus,
-        b'<' | b'>' => Lexeme::Relation,
+        b'<' => Lexeme::Lt,
+        b'>' => Lexeme::Gt,
         _ => Lexeme::Foreign,
     }
 }
@@ -167,7 +188,10 @@ fn two_bytes(first: u8, second: u8) -> Lexeme
     match (first, second) {
         (b'*', b'*') => Lexeme::Power,
         (b'/', b'/') => Lexeme::Concat,
-        (b'=', b'=') | (b'/', b'=') | (b'<', b'=') | (b'>', b'=') => Lexeme::Relation,
+        (b'=', b'=') => Lexeme::Eq,
+        (b'/', b'=') => Lexeme::Ne,
+        (b'<', b'=') => Lexeme::Le,
+        (b'>', b'=') => Lexeme::Ge,
         (b':', b':') => Lexeme::Colons,
         (b'=', b'>') => Lexeme::Arrow,
         _ => Lexeme::Foreign,

@@ -5,6 +5,7 @@ mod expr;
 mod form;
 mod lexeme;
 mod mark;
+mod operator;
 mod parts;
 mod piece;
 mod table;
@@ -16,6 +17,7 @@ pub use expr::{Expr, Part};
 pub use form::Form;
 pub use lexeme::Lexeme;
 pub use mark::{Content, Mark, Region, Section, Title};
+pub use operator::Operator;
 pub use parts::{
     AccessWord, ArrayDecl, Attribute, AttributeKind, BlockName, BoundPair, CaseRange, CharLength,
     CommonGroup, CommonMember, DataConstant, DataGroup, DataValue, Designator, DoControl, EndWord,
