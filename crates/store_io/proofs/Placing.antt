@@ -3,7 +3,7 @@ use Rattle.std.proofs.Common.{◌≡◌, ℕ, suc, ◌+◌, ◌<◌, Bool, true,
 use Rattle.std.proofs.lemmas.List.{drop_more, take_more, set_split}
 use Rattle.std.specs.Ordering.{eq_by_cmp}
 use Rattle.std.specs.FinMap.{slice_cmp-IsAntisymmetric, nat_cmp-IsAntisymmetric}
-use Rattle.std.specs.FinMap.Entries.{by_order, is_sorted, is_sorted-put}
+use Rattle.std.specs.FinMap.Entries.{by_order, is_sorted-put}
 use Rattle.std.proofs.lemmas.Cmp.{nat_list_cmp_total}
 use Rattle.std.proofs.lemmas.Float.{T_from_true}
 use Rattle.std.specs.declared.cmp.Ordering.{Ordering}
@@ -55,7 +55,13 @@ true_from_T true holds = refl
 true_from_T false holds = absurd holds
 
 -- a put keeps files in order of names
-pub stays_in_order : (files now : List File) (name text : List ℕ) → IsInOrder files → now ≡ with_file name text files → IsInOrder now
-stays_in_order files now name text ordered put =
-    let kept : T (is_sorted by_name (with_file name text files)) = is_sorted-put by_name nat_list_cmp_total name text files (T_from_true _ ordered) in
-    subst IsInOrder (sym put) (true_from_T _ kept)
+put_in_order : (files : List File) (name text : List ℕ) → IsInOrder files → IsInOrder (with_file name text files)
+put_in_order files name text ordered = true_from_T _ (is_sorted-put by_name nat_list_cmp_total name text files (T_from_true _ ordered))
+
+in_order_both : (made : Bool) (files : List File) (name text : List ℕ) → IsInOrder files → IsInOrder (cond made (with_file name text files) files)
+in_order_both true files name text ordered = put_in_order files name text ordered
+in_order_both false files name text ordered = ordered
+
+-- so does a call that makes a put, or doesn't
+pub stays_in_order : (made : Bool) (files now : List File) (name text : List ℕ) → IsInOrder files → now ≡ cond made (with_file name text files) files → IsInOrder now
+stays_in_order made files now name text ordered put = subst IsInOrder (sym put) (in_order_both made files name text ordered)

@@ -12,6 +12,7 @@ mod source;
 mod std_sink;
 mod std_source;
 mod store;
+mod store_calls;
 
 pub use dir_store::DirStore;
 pub use fault::{Failed, ListFault, ReadFault, SinkFault};
@@ -23,3 +24,4 @@ pub use source::Source;
 pub use std_sink::StdSink;
 pub use std_source::StdSource;
 pub use store::Store;
+pub use store_calls::FailAt;
