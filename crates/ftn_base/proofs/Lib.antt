@@ -1,3 +1,4 @@
 pub mod NameLemmas
 pub mod PlaceLemmas
+pub mod PowerLaws
 pub mod WalkLaws

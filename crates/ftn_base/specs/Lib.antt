@@ -1,4 +1,5 @@
 pub mod Limits
+pub mod Arithmetic
 pub mod Letters
 pub mod Names
 pub mod Places
@@ -6,3 +7,13 @@ pub mod Storage
 pub mod Keywords
 pub mod Files
 pub mod FaultNames
+pub mod ImplicitLetters
+pub mod ModuleUses
+pub mod ModuleOrders
+pub mod ModuleCycles
+pub mod Exports
+pub mod Accessible
+pub mod StorageMembers
+pub mod StorageGiven
+pub mod StorageFaults
+pub mod StorageLayout

@@ -1,5 +1,5 @@
 -- Storage association (Fortran 90, 14.6.3): links between sequences of storage units, and walks over them.
-use Rattle.std.specs.Prelude.{ℕ, ◌≡◌, ◌≢◌, ℤ, pos, neg_ℤ, ◌+ℤ◌, ◌-ℤ◌, ◌≤ℤ◌, List, [], ◌∷◌, map, Contains}
+use Rattle.std.specs.Prelude.{ℕ, ◌<◌, ◌≡◌, ◌≢◌, ℤ, pos, neg_ℤ, ◌+ℤ◌, ◌-ℤ◌, ◌≤ℤ◌, List, [], ◌∷◌, length, map, slice_index, Contains}
 use Rattle.ftn_base.specs.declared.entity.Tie.{Tie}
 
 -- what takes a sequence of storage units (14.6.3.1): a data object or a common block, by its number
@@ -12,6 +12,13 @@ pub record Link : Type 0 where
   pub from : Thing
   pub to : Thing
   pub by : ℤ
+
+-- the tie names units of objects that are there
+pub record IsWithin (sizes : List ℕ) (tie : Tie) : Type 0 where
+  pub a : tie.a < length sizes
+  pub b : tie.b < length sizes
+  pub at_a : tie.at_a < slice_index sizes tie.a
+  pub at_b : tie.at_b < slice_index sizes tie.b
 
 -- EQUIVALENCE (5.5.1) makes unit i of one object unit j of another, so the other begins at unit i - j
 abbrev pub tie_link : Tie → Link
