@@ -5,8 +5,9 @@ use Rattle.ftn_tree.specs.declared.expr.Expr.{Expr}
 use Rattle.ftn_tree.specs.declared.expr.Expr.TheVariants as exprs
 use Rattle.ftn_tree.specs.declared.lexeme.Lexeme.{Lexeme}
 use Rattle.ftn_tree.specs.declared.lexeme.Lexeme.TheVariants as lexeme
+use Rattle.ftn_tree.specs.declared.operator.Operator.{Operator}
 use Rattle.ftn_tree.specs.Lexemes.{lexeme_of}
-use Rattle.ftn_tree.specs.Levels.{Binding, before, loosest}
+use Rattle.ftn_tree.specs.Levels.{Binding, Prefix, before, loosest}
 use Rattle.ftn_tree.specs.Trees.{Tree, whole, truth, quoted, paren, unary, binary, refer}
 use Rattle.ftn_tree.specs.Phrases.{Phrase, ◌·◌, token, mark, mark_at, name}
 use Rattle.ftn_tree.specs.Grammar.{IsBetween, IsBefore, IsNumber, some_level, Spells, SpellsArgs, SpellsSection, IsExpression}
@@ -23,8 +24,9 @@ use Rattle.expr_parse.proofs.Stops.{Stops, weaker, no_operator, no_power, stops_
 use Rattle.expr_parse.proofs.CompleteRules.{IsComplete, constant_here, whole_is, complete_parens, complete_named, fewer}
 
 -- the tokens of a binary operator and of its operands
-record BinaryTook (number : ℕ) (left right : Tree) (level : ℕ) (i j : Input) : Type 0 where
+record BinaryTook (number : ℕ) (operator : Operator) (left right : Tree) (level : ℕ) (i j : Input) : Type 0 where
   how : Binding
+  is_operator : operator ≡ how.operator
   is_level : level ≡ how.level
   left_level : ℕ
   left_small : left_level ≤ how.left
@@ -36,15 +38,16 @@ record BinaryTook (number : ℕ) (left right : Tree) (level : ℕ) (i j : Input)
   op : TookOne (λ at here. (number ≡ at) × IsBetween here how) op_at right_at
   took_right : Took (Spells right right_level) right_at j
 
-took_binary : (number : ℕ) (left right : Tree) (level : ℕ) (i j : Input) → Took (Spells (binary number left right) level) i j → BinaryTook number left right level i j
-took_binary number left right level i j took = by took.says where
-  by : Spells (binary number left right) level i.at took.tokens → BinaryTook number left right level i j
-  by (how, is_level, l, left_small, r, right_small, says) =
+took_binary : (number : ℕ) (operator : Operator) (left right : Tree) (level : ℕ) (i j : Input) → Took (Spells (binary number operator left right) level) i j → BinaryTook number operator left right level i j
+took_binary number operator left right level i j took = by took.says where
+  by : Spells (binary number operator left right) level i.at took.tokens → BinaryTook number operator left right level i j
+  by (how, is_operator, is_level, l, left_small, r, right_small, says) =
       let op = token (λ at here. (number ≡ at) × IsBetween here how) in
       let outer = split_took (Spells left l) (op · Spells right r) i j (record { tokens = took.tokens; rest = took.rest; at = took.at; says = says }) in
       let inner = split_took op (Spells right r) outer.middle j outer.second in
       record {
         how = how;
+        is_operator = is_operator;
         is_level = is_level;
         left_level = l;
         left_small = left_small;
@@ -57,26 +60,30 @@ took_binary number left right level i j took = by took.says where
         took_right = inner.second;
       }
 
-record UnaryTook (number : ℕ) (operand : Tree) (level : ℕ) (i j : Input) : Type 0 where
-  limit : ℕ
+record UnaryTook (number : ℕ) (operator : Operator) (operand : Tree) (level : ℕ) (i j : Input) : Type 0 where
+  how : Prefix
+  is_operator : operator ≡ how.operator
+  is_level : level ≡ how.level
   operand_level : ℕ
-  operand_small : operand_level ≤ limit
+  operand_small : operand_level ≤ how.operand
   operand_at : Input
-  op : TookOne (λ at here. (number ≡ at) × IsBefore here level limit) i operand_at
+  op : TookOne (λ at here. (number ≡ at) × IsBefore here how) i operand_at
   took : Took (Spells operand operand_level) operand_at j
 
-took_unary : (number : ℕ) (operand : Tree) (level : ℕ) (i j : Input) → Took (Spells (unary number operand) level) i j → UnaryTook number operand level i j
-took_unary number operand level i j took = by took.says where
-  by : Spells (unary number operand) level i.at took.tokens → UnaryTook number operand level i j
-  by (k, limit, small, says) =
-      let op = token (λ at here. (number ≡ at) × IsBefore here level limit) in
+took_unary : (number : ℕ) (operator : Operator) (operand : Tree) (level : ℕ) (i j : Input) → Took (Spells (unary number operator operand) level) i j → UnaryTook number operator operand level i j
+took_unary number operator operand level i j took = by took.says where
+  by : Spells (unary number operator operand) level i.at took.tokens → UnaryTook number operator operand level i j
+  by (how, is_operator, is_level, k, small, says) =
+      let op = token (λ at here. (number ≡ at) × IsBefore here how) in
       let parts = split_took op (Spells operand k) i j (record { tokens = took.tokens; rest = took.rest; at = took.at; says = says }) in
       record {
-        limit = limit;
+        how = how;
+        is_operator = is_operator;
+        is_level = is_level;
         operand_level = k;
         operand_small = small;
         operand_at = parts.middle;
-        op = took_token (λ at here. (number ≡ at) × IsBefore here level limit) i parts.middle parts.first;
+        op = took_token (λ at here. (number ≡ at) × IsBefore here how) i parts.middle parts.first;
         took = parts.second;
       }
 
@@ -126,12 +133,12 @@ module _ (read : ℕ → Reader Expr) (n : ℕ) (complete : IsComplete read n) w
       let phrase = mark_at number lexeme.Open · some_level (Spells inner) · mark lexeme.Close in
       let (peeked, is) = complete_parens read n complete number inner i j (at_zero (paren number inner) level phrase i j (λ at tokens (is, says). says) took) small in
       primary_is lexeme.Open i (Some (exprs.Paren number (expr_of inner), j)) peeked is
-  complete_primary (unary number operand) level i j zero_level took small unopened =
-      let parts = took_unary number operand level i j took in
-      let facts = each_sign (lexeme_of parts.op.here) (level, parts.limit) parts.op.says.1 in
-      absurd (no_sign_level level parts.limit zero_level facts.above)
-  complete_primary (binary number left right) level i j zero_level took small unopened =
-      let parts = took_binary number left right level i j took in
+  complete_primary (unary number operator operand) level i j zero_level took small unopened =
+      let parts = took_unary number operator operand level i j took in
+      let facts = each_sign (lexeme_of parts.op.here) parts.how parts.op.says.1 in
+      absurd (no_sign_level level parts.how.operand zero_level (parts.is_level ∙ facts.above))
+  complete_primary (binary number operator left right) level i j zero_level took small unopened =
+      let parts = took_binary number operator left right level i j took in
       absurd (no_primary level parts.how.level zero_level parts.is_level (level_some (lexeme_of parts.op.here) parts.how parts.op.says.1).0)
   complete_primary (refer number given part) level i j zero_level took small unopened =
       let phrase = name number · SpellsArgs given · SpellsSection part in
@@ -152,12 +159,12 @@ module _ (read : ℕ → Reader Expr) (n : ℕ) (complete : IsComplete read n) w
       bind_is (reading.primary read i) (goes_on turns steps) (expr_of tree) j answer (complete_primary tree level i j zero_level took small stops.unopened)
       (ap (λ there. if there then reading.powers_from read turns (steps ++ (expr_of tree, j.at) ∷ []) (after j) else Some (chained steps (expr_of tree), j)) (no_power limit j some stops))
 
-  next_operand : (number : ℕ) (left right : Tree) (level turns : ℕ) (steps : List (Expr × ℕ)) (i j : Input) (parts : BinaryTook number left right level i j) → power ≡ parts.how → length i.rest ≤ suc n
+  next_operand : (number : ℕ) (operator : Operator) (left right : Tree) (level turns : ℕ) (steps : List (Expr × ℕ)) (i j : Input) (parts : BinaryTook number operator left right level i j) → power ≡ parts.how → length i.rest ≤ suc n
       → reading.powers_from read turns (steps ++ (expr_of left, number) ∷ []) parts.right_at ≡ Some (chained (steps ++ (expr_of left, number) ∷ []) (expr_of right), j)
-      → reading.powers_from read (suc turns) steps i ≡ Some (chained steps (exprs.Binary number (expr_of left) (expr_of right)), j)
+      → reading.powers_from read (suc turns) steps i ≡ Some (chained steps (exprs.Binary number operator (expr_of left) (expr_of right)), j)
   unfolding reading.powers_from
-  next_operand number left right level turns steps i j parts is small onward =
-      let answer = Some (chained steps (exprs.Binary number (expr_of left) (expr_of right)), j) in
+  next_operand number operator left right level turns steps i j parts is small onward =
+      let answer = Some (chained steps (exprs.Binary number operator (expr_of left) (expr_of right)), j) in
       let k = parts.op_at in
       let holds = λ (at : ℕ) (here : Token). (number ≡ at) × IsBetween here parts.how in
       let stops = stops_operator holds parts.how 0 k parts.right_at parts.op parts.op.says.1 (level_some (lexeme_of parts.op.here) parts.how parts.op.says.1).0 in
@@ -167,7 +174,8 @@ module _ (read : ℕ → Reader Expr) (n : ℕ) (complete : IsComplete read n) w
       (ap (λ there. if there then reading.powers_from read turns (steps ++ (expr_of left, k.at) ∷ []) (after k) else Some (chained steps (expr_of left), k)) seen
       ∙ ap (λ at. reading.powers_from read turns (steps ++ (expr_of left, at) ∷ []) (after k)) (sym parts.op.says.0)
       ∙ ap (λ next. reading.powers_from read turns (steps ++ (expr_of left, number) ∷ []) next) parts.op.next
-      ∙ onward ∙ ap (λ all. Some (all, j)) (chained_last steps (expr_of left, number) (expr_of right))) where
+      ∙ onward ∙ ap (λ all. Some (all, j)) (chained_last steps (expr_of left, number) (expr_of right))
+      ∙ ap (λ operator. Some (chained steps (exprs.Binary number operator (expr_of left) (expr_of right)), j)) (ap (λ (how : Binding). how.operator) is ∙ sym parts.is_operator)) where
         none_left : (level left : ℕ) → level ≤ left → left ≡ 0 → level ≡ 0
         none_left level left small e = omega arith
 
@@ -194,19 +202,19 @@ module _ (read : ℕ → Reader Expr) (n : ℕ) (complete : IsComplete read n) w
   chain (quoted number value) level limit turns steps i j low took small enough some stops = last_operand (quoted number value) level limit turns steps i j took.says.0 took small enough some stops
   chain (paren number inner) level limit turns steps i j low took small enough some stops = last_operand (paren number inner) level limit turns steps i j took.says.0 took small enough some stops
   chain (refer number given part) level limit turns steps i j low took small enough some stops = last_operand (refer number given part) level limit turns steps i j took.says.0 took small enough some stops
-  chain (unary number operand) level limit turns steps i j low took small enough some stops =
-      let parts = took_unary number operand level i j took in
-      let facts = each_sign (lexeme_of parts.op.here) (level, parts.limit) parts.op.says.1 in
-      absurd (no_sign_low level parts.limit low facts.above facts.some)
-  chain (binary number left right) level limit zero steps i j low took small enough some stops =
-      let parts = took_binary number left right level i j took in
+  chain (unary number operator operand) level limit turns steps i j low took small enough some stops =
+      let parts = took_unary number operator operand level i j took in
+      let facts = each_sign (lexeme_of parts.op.here) parts.how parts.op.says.1 in
+      absurd (no_sign_low level parts.how.operand low (parts.is_level ∙ facts.above) facts.some)
+  chain (binary number operator left right) level limit zero steps i j low took small enough some stops =
+      let parts = took_binary number operator left right level i j took in
       absurd (no_turn (length i.rest) (length parts.op_at.rest) (length parts.right_at.rest) (no_longer (Spells left parts.left_level) i parts.op_at parts.took_left) parts.op.shorter enough)
-  chain (binary number left right) level limit (suc turns) steps i j low took small enough some stops =
-      let parts = took_binary number left right level i j took in
+  chain (binary number operator left right) level limit (suc turns) steps i j low took small enough some stops =
+      let parts = took_binary number operator left right level i j took in
       let is = power_is parts.how level (each_binding (lexeme_of parts.op.here) parts.how parts.op.says.1) low parts.is_level in
       let before_op = no_longer (Spells left parts.left_level) i parts.op_at parts.took_left in
       let right_low = subst (λ (how : Binding). parts.right_level ≤ how.right) (sym is) parts.right_small in
-      next_operand number left right level turns steps i j parts is small
+      next_operand number operator left right level turns steps i j parts is small
       (chain right parts.right_level limit turns (steps ++ (expr_of left, number) ∷ []) parts.right_at j right_low parts.took_right
       (fewer_turns (length i.rest) (length parts.op_at.rest) (length parts.right_at.rest) (suc n) before_op parts.op.shorter (more_turns (length i.rest) small))
       (fewer_turns (length i.rest) (length parts.op_at.rest) (length parts.right_at.rest) turns before_op parts.op.shorter enough) some stops) where
@@ -238,23 +246,25 @@ module _ (read : ℕ → Reader Expr) (n : ℕ) (complete : IsComplete read n) w
         (chain tree level limit (length i.rest) [] i j low took small (all_left (length i.rest)) some stops) refl;
   }
 
-  sign_climbs : (number : ℕ) (operand : Tree) (level most limit : ℕ) (i j : Input) → Took (Spells (unary number operand) level) i j → length i.rest ≤ suc n → level ≤ most → level ≤ suc limit → Stops limit j → Climbs (unary number operand) level most i j
+  sign_climbs : (number : ℕ) (operator : Operator) (operand : Tree) (level most limit : ℕ) (i j : Input) → Took (Spells (unary number operator operand) level) i j → length i.rest ≤ suc n → level ≤ most → level ≤ suc limit → Stops limit j → Climbs (unary number operator operand) level most i j
   unfolding reading.level reading.operators
-  sign_climbs number operand level most limit i j took small fits edge stops =
-      let parts = took_unary number operand level i j took in
-      let facts = each_sign (lexeme_of parts.op.here) (level, parts.limit) parts.op.says.1 in
-      let read_operand = complete operand parts.operand_level parts.limit parts.operand_at j (one_of parts.limit facts.some) parts.took parts.operand_small
-      (fewer (length i.rest) (length parts.operand_at.rest) n parts.op.shorter small) (weaker limit parts.limit j (at_edge level limit parts.limit edge facts.above) stops) in
+  sign_climbs number operator operand level most limit i j took small fits edge stops =
+      let parts = took_unary number operator operand level i j took in
+      let how = parts.how in
+      let facts = each_sign (lexeme_of parts.op.here) how parts.op.says.1 in
+      let read_operand = complete operand parts.operand_level how.operand parts.operand_at j (one_of how.operand facts.some) parts.took parts.operand_small
+      (fewer (length i.rest) (length parts.operand_at.rest) n parts.op.shorter small) (weaker limit how.operand j (at_edge level limit how.operand edge (parts.is_level ∙ facts.above)) stops) in
       record {
         turns = length j.rest;
-        own = level;
+        own = how.level;
         enough = all_left (length j.rest);
-        own_small = λ bound one below. below;
-        is = ap (λ sign. reading.level_by read most sign i) (sign_here most (level, parts.limit) i parts.op.here parts.operand_at.rest parts.op.row parts.op.says.1 fits)
-            ∙ ap (λ next. (read parts.limit >>= (λ operand. reading.operators read most level (exprs.Unary i.at operand))) next) parts.op.next
-            ∙ bind_is (read parts.limit parts.operand_at) (λ operand. reading.operators read most level (exprs.Unary i.at operand)) (expr_of operand) j
-            (reading.climb read (length j.rest) most level (exprs.Unary i.at (expr_of operand)) j) read_operand refl
-            ∙ ap (λ number. reading.climb read (length j.rest) most level (exprs.Unary number (expr_of operand)) j) (sym parts.op.says.0);
+        own_small = λ bound one below. subst (λ level. level ≤ bound) parts.is_level below;
+        is = ap (λ sign. reading.level_by read most sign i) (sign_here most how i parts.op.here parts.operand_at.rest parts.op.row parts.op.says.1 (subst (λ level. level ≤ most) parts.is_level fits))
+            ∙ ap (λ next. (read how.operand >>= (λ operand. reading.operators read most how.level (exprs.Unary i.at how.operator operand))) next) parts.op.next
+            ∙ bind_is (read how.operand parts.operand_at) (λ operand. reading.operators read most how.level (exprs.Unary i.at how.operator operand)) (expr_of operand) j
+            (reading.climb read (length j.rest) most how.level (exprs.Unary i.at how.operator (expr_of operand)) j) read_operand refl
+            ∙ ap (λ number. reading.climb read (length j.rest) most how.level (exprs.Unary number how.operator (expr_of operand)) j) (sym parts.op.says.0)
+            ∙ ap (λ operator. reading.climb read (length j.rest) most how.level (exprs.Unary number operator (expr_of operand)) j) (sym parts.is_operator);
       } where
         one_of : (limit : ℕ) → 2 ≤ limit → 1 ≤ limit
         one_of limit some = omega arith
@@ -263,10 +273,10 @@ module _ (read : ℕ → Reader Expr) (n : ℕ) (complete : IsComplete read n) w
         at_edge level limit operand_limit a b = omega arith
 
   -- one turn: an operator and its right operand
-  climb_on : (number : ℕ) (left right : Tree) (level most limit : ℕ) (i j : Input) (parts : BinaryTook number left right level i j) → Ordinary parts.how → length i.rest ≤ suc n → level ≤ most → level ≤ suc limit → Stops limit j
-      → Climbs left parts.left_level most i parts.op_at → Climbs (binary number left right) level most i j
+  climb_on : (number : ℕ) (operator : Operator) (left right : Tree) (level most limit : ℕ) (i j : Input) (parts : BinaryTook number operator left right level i j) → Ordinary parts.how → length i.rest ≤ suc n → level ≤ most → level ≤ suc limit → Stops limit j
+      → Climbs left parts.left_level most i parts.op_at → Climbs (binary number operator left right) level most i j
   unfolding reading.climb
-  climb_on number left right level most limit i j parts ordinary small fits edge stops before = by before.turns before.enough before.is where
+  climb_on number operator left right level most limit i j parts ordinary small fits edge stops before = by before.turns before.enough before.is where
     k : Input
     k = parts.op_at
 
@@ -285,7 +295,7 @@ module _ (read : ℕ → Reader Expr) (n : ℕ) (complete : IsComplete read n) w
         (few (length i.rest) (length k.rest) (length parts.right_at.rest) (no_longer (Spells left parts.left_level) i k parts.took_left) parts.op.shorter small)
         (weaker limit parts.how.right j (at_edge level limit parts.how.level parts.how.right edge parts.is_level ordinary.level) stops)
 
-    by : (turns : ℕ) → length k.rest ≤ turns → reading.level read most i ≡ reading.climb read turns most before.own (expr_of left) k → Climbs (binary number left right) level most i j
+    by : (turns : ℕ) → length k.rest ≤ turns → reading.level read most i ≡ reading.climb read turns most before.own (expr_of left) k → Climbs (binary number operator left right) level most i j
     by zero enough is = absurd (contrary (length k.rest) (length parts.right_at.rest) parts.op.shorter enough) where
       contrary : (left right : ℕ) → left ≡ suc right → left ≤ 0 → ⊥
       contrary left right a b = absurd (omega arith)
@@ -295,11 +305,12 @@ module _ (read : ℕ → Reader Expr) (n : ℕ) (complete : IsComplete read n) w
       enough = turns_left (length k.rest) (length parts.right_at.rest) (length j.rest) turns parts.op.shorter (no_longer (Spells right parts.right_level) parts.right_at j parts.took_right) enough;
       own_small = λ bound one below. subst (λ level. level ≤ bound) parts.is_level below;
       is = is
-          ∙ ap (λ next. reading.go_on read next (expr_of left) (λ how. read how.right >>= (λ right. reading.climb read turns most how.level (exprs.Binary k.at (expr_of left) right))) k) next_is
-          ∙ ap (λ next. (read parts.how.right >>= (λ right. reading.climb read turns most parts.how.level (exprs.Binary k.at (expr_of left) right))) next) parts.op.next
-          ∙ bind_is (read parts.how.right parts.right_at) (λ right. reading.climb read turns most parts.how.level (exprs.Binary k.at (expr_of left) right)) (expr_of right) j
-          (reading.climb read turns most parts.how.level (exprs.Binary k.at (expr_of left) (expr_of right)) j) read_right refl
-          ∙ ap (λ number. reading.climb read turns most parts.how.level (exprs.Binary number (expr_of left) (expr_of right)) j) (sym parts.op.says.0);
+          ∙ ap (λ next. reading.go_on read next (expr_of left) (λ how. read how.right >>= (λ right. reading.climb read turns most how.level (exprs.Binary k.at how.operator (expr_of left) right))) k) next_is
+          ∙ ap (λ next. (read parts.how.right >>= (λ right. reading.climb read turns most parts.how.level (exprs.Binary k.at parts.how.operator (expr_of left) right))) next) parts.op.next
+          ∙ bind_is (read parts.how.right parts.right_at) (λ right. reading.climb read turns most parts.how.level (exprs.Binary k.at parts.how.operator (expr_of left) right)) (expr_of right) j
+          (reading.climb read turns most parts.how.level (exprs.Binary k.at parts.how.operator (expr_of left) (expr_of right)) j) read_right refl
+          ∙ ap (λ number. reading.climb read turns most parts.how.level (exprs.Binary number parts.how.operator (expr_of left) (expr_of right)) j) (sym parts.op.says.0)
+          ∙ ap (λ operator. reading.climb read turns most parts.how.level (exprs.Binary number operator (expr_of left) (expr_of right)) j) (sym parts.is_operator);
     } where
       turns_left : (left right last turns : ℕ) → left ≡ suc right → last ≤ right → left ≤ suc turns → last ≤ turns
       turns_left left right last turns a b c = omega arith
@@ -321,12 +332,12 @@ module _ (read : ℕ → Reader Expr) (n : ℕ) (complete : IsComplete read n) w
   spine (refer number given part) level most limit i j took small fits some edge stops = low_climbs (refer number given part) level most limit i j (low level took.says.0) took small some stops where
     low : (level : ℕ) → level ≡ 0 → level ≤ 1
     low level e = omega arith
-  spine (unary number operand) level most limit i j took small fits some edge stops = sign_climbs number operand level most limit i j took small fits edge stops
-  spine (binary number left right) level most limit i j took small fits some edge stops =
+  spine (unary number operator operand) level most limit i j took small fits some edge stops = sign_climbs number operator operand level most limit i j took small fits edge stops
+  spine (binary number operator left right) level most limit i j took small fits some edge stops =
       by parts (λ limit some edge stops. spine left parts.left_level most limit i parts.op_at parts.took_left small (left_fits parts.left_level parts.how.left parts.how.level level most parts.left_small (level_some (lexeme_of parts.op.here) parts.how parts.op.says.1).1 parts.is_level fits) some edge stops)
       (each_binding (lexeme_of parts.op.here) parts.how parts.op.says.1) where
-        parts : BinaryTook number left right level i j
-        parts = took_binary number left right level i j took
+        parts : BinaryTook number operator left right level i j
+        parts = took_binary number operator left right level i j took
 
         left_fits : (left_level left made level most : ℕ) → left_level ≤ left → left ≤ made → level ≡ made → level ≤ most → left_level ≤ most
         left_fits left_level left made level most a b c d = omega arith
@@ -340,12 +351,12 @@ module _ (read : ℕ → Reader Expr) (n : ℕ) (complete : IsComplete read n) w
         one_level : (level made : ℕ) → level ≡ made → 1 ≡ made → level ≤ 1
         one_level level made a b = omega arith
 
-        by : (parts : BinaryTook number left right level i j) → ((limit : ℕ) → 1 ≤ limit → parts.left_level ≤ suc limit → Stops limit parts.op_at → Climbs left parts.left_level most i parts.op_at)
-            → (power ≡ parts.how) ⊎ Ordinary parts.how → Climbs (binary number left right) level most i j
-        by parts onward (inl is) = low_climbs (binary number left right) level most limit i j (one_level level parts.how.level parts.is_level (ap (λ (how : Binding). how.level) is)) took small some stops
+        by : (parts : BinaryTook number operator left right level i j) → ((limit : ℕ) → 1 ≤ limit → parts.left_level ≤ suc limit → Stops limit parts.op_at → Climbs left parts.left_level most i parts.op_at)
+            → (power ≡ parts.how) ⊎ Ordinary parts.how → Climbs (binary number operator left right) level most i j
+        by parts onward (inl is) = low_climbs (binary number operator left right) level most limit i j (one_level level parts.how.level parts.is_level (ap (λ (how : Binding). how.level) is)) took small some stops
         by parts onward (inr ordinary) =
             let holds = λ (at : ℕ) (here : Token). (number ≡ at) × IsBetween here parts.how in
-            climb_on number left right level most limit i j parts ordinary small fits edge stops
+            climb_on number operator left right level most limit i j parts ordinary small fits edge stops
             (onward parts.how.right ordinary.right (left_edge parts.left_level parts.how.left parts.how.level parts.how.right parts.left_small ordinary.left ordinary.level)
             (stops_operator holds parts.how parts.how.right parts.op_at parts.right_at parts.op parts.op.says.1 (below parts.how.level parts.how.right ordinary.level)))
 
@@ -353,7 +364,7 @@ module _ (read : ℕ → Reader Expr) (n : ℕ) (complete : IsComplete read n) w
   unfolding reading.climb
   climb_ends zero most own left j stops = refl
   climb_ends (suc turns) most own left j stops =
-      ap (λ next. reading.go_on read next left (λ how. read how.right >>= (λ right. reading.climb read turns most how.level (exprs.Binary j.at left right))) j) (no_operator most own j stops)
+      ap (λ next. reading.go_on read next left (λ how. read how.right >>= (λ right. reading.climb read turns most how.level (exprs.Binary j.at how.operator left right))) j) (no_operator most own j stops)
 
   complete_level : IsComplete (reading.level read) (suc n)
   complete_level tree level most i j some took fits small stops =

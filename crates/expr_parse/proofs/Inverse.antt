@@ -2,6 +2,7 @@
 use Rattle.std.proofs.Common.{◌≡◌, refl, sym, ◌∙◌, ap, subst, ℕ, ℤ, Bool, List, [], ◌∷◌, map, Option, Some, None, option_map}
 use Rattle.ftn_tree.specs.declared.expr.Expr.{Expr}
 use Rattle.ftn_tree.specs.declared.expr.Part.{Part}
+use Rattle.ftn_tree.specs.declared.operator.Operator.{Operator}
 use Rattle.ftn_tree.specs.declared.expr.Expr.TheVariants as e
 use Rattle.ftn_tree.specs.declared.expr.Expr.TheOpen.{Expr-F, Part-F}
 use Rattle.ftn_tree.specs.declared.expr.Expr.TheViews.{roll-Expr, roll-Part}
@@ -14,8 +15,8 @@ abbrev mutual
   expr_of (truth number value) = e.Truth number value
   expr_of (quoted number value) = e.Quoted number value
   expr_of (paren number inner) = e.Paren number (expr_of inner)
-  expr_of (unary number operand) = e.Unary number (expr_of operand)
-  expr_of (binary number left right) = e.Binary number (expr_of left) (expr_of right)
+  expr_of (unary number operator operand) = e.Unary number operator (expr_of operand)
+  expr_of (binary number operator left right) = e.Binary number operator (expr_of left) (expr_of right)
   expr_of (refer number given part) = e.Refer number (args_back given) (part_back part)
 
   pub args_back : Args → Option (List Expr)
@@ -69,11 +70,11 @@ tree_quoted number value = ap tree_of (sym (e.rolls-Quoted number value)) ∙ fo
 pub tree_paren : (number : ℕ) (inner : Expr) → tree_of (e.Paren number inner) ≡ paren number (tree_of inner)
 tree_paren number inner = ap tree_of (sym (e.rolls-Paren number inner)) ∙ fold-roll-Expr Tree Section tree_step part_step (Expr-F.Paren number inner)
 
-pub tree_unary : (number : ℕ) (operand : Expr) → tree_of (e.Unary number operand) ≡ unary number (tree_of operand)
-tree_unary number operand = ap tree_of (sym (e.rolls-Unary number operand)) ∙ fold-roll-Expr Tree Section tree_step part_step (Expr-F.Unary number operand)
+pub tree_unary : (number : ℕ) (operator : Operator) (operand : Expr) → tree_of (e.Unary number operator operand) ≡ unary number operator (tree_of operand)
+tree_unary number operator operand = ap tree_of (sym (e.rolls-Unary number operator operand)) ∙ fold-roll-Expr Tree Section tree_step part_step (Expr-F.Unary number operator operand)
 
-pub tree_binary : (number : ℕ) (left right : Expr) → tree_of (e.Binary number left right) ≡ binary number (tree_of left) (tree_of right)
-tree_binary number left right = ap tree_of (sym (e.rolls-Binary number left right)) ∙ fold-roll-Expr Tree Section tree_step part_step (Expr-F.Binary number left right)
+pub tree_binary : (number : ℕ) (operator : Operator) (left right : Expr) → tree_of (e.Binary number operator left right) ≡ binary number operator (tree_of left) (tree_of right)
+tree_binary number operator left right = ap tree_of (sym (e.rolls-Binary number operator left right)) ∙ fold-roll-Expr Tree Section tree_step part_step (Expr-F.Binary number operator left right)
 
 refer_step : (number : ℕ) (given : Option (List Expr)) (part : Option Part) → tree_of (e.Refer number given part) ≡ tree_of (roll-Expr (Expr-F.Refer number given part))
 refer_step number given part = ap tree_of (sym (e.rolls-Refer number given part))
@@ -119,13 +120,13 @@ module _ (Inner InnerPart : Type 0) (value : Inner → Expr) (part_value : Inner
   rolled (Expr-F.Paren number inner) =
       ap (λ found. expr_of (tree_of found)) (e.rolls-Paren number (value inner)) ∙ ap expr_of (tree_paren number (value inner))
       ∙ ap (λ found. e.Paren number found) (same inner) ∙ sym (e.rolls-Paren number (value inner))
-  rolled (Expr-F.Unary number operand) =
-      ap (λ found. expr_of (tree_of found)) (e.rolls-Unary number (value operand)) ∙ ap expr_of (tree_unary number (value operand))
-      ∙ ap (λ found. e.Unary number found) (same operand) ∙ sym (e.rolls-Unary number (value operand))
-  rolled (Expr-F.Binary number left right) =
-      ap (λ found. expr_of (tree_of found)) (e.rolls-Binary number (value left) (value right)) ∙ ap expr_of (tree_binary number (value left) (value right))
-      ∙ ap (λ found. e.Binary number found (expr_of (tree_of (value right)))) (same left) ∙ ap (λ found. e.Binary number (value left) found) (same right)
-      ∙ sym (e.rolls-Binary number (value left) (value right))
+  rolled (Expr-F.Unary number operator operand) =
+      ap (λ found. expr_of (tree_of found)) (e.rolls-Unary number operator (value operand)) ∙ ap expr_of (tree_unary number operator (value operand))
+      ∙ ap (λ found. e.Unary number operator found) (same operand) ∙ sym (e.rolls-Unary number operator (value operand))
+  rolled (Expr-F.Binary number operator left right) =
+      ap (λ found. expr_of (tree_of found)) (e.rolls-Binary number operator (value left) (value right)) ∙ ap expr_of (tree_binary number operator (value left) (value right))
+      ∙ ap (λ found. e.Binary number operator found (expr_of (tree_of (value right)))) (same left) ∙ ap (λ found. e.Binary number operator (value left) found) (same right)
+      ∙ sym (e.rolls-Binary number operator (value left) (value right))
   rolled (Expr-F.Refer number None None) = same_refer number None None refl refl
   rolled (Expr-F.Refer number None (Some part)) = same_refer number None (Some (part_value part)) refl (same_part part)
   rolled (Expr-F.Refer number (Some given) None) = same_refer number (Some (map value given)) None (ap Some (same_list given)) refl

@@ -5,7 +5,7 @@ use Rattle.ftn_tree.specs.declared.expr.Expr.{Expr}
 use Rattle.ftn_tree.specs.declared.lexeme.Lexeme.{Lexeme}
 use Rattle.ftn_tree.specs.declared.lexeme.Lexeme.TheVariants as lexeme
 use Rattle.ftn_tree.specs.Lexemes.{lexeme_of}
-use Rattle.ftn_tree.specs.Levels.{Binding, between, before}
+use Rattle.ftn_tree.specs.Levels.{Binding, Prefix, between, before}
 use Rattle.ftn_tree.specs.Trees.{Tree, whole, truth, quoted, paren, unary, binary, refer, tree_of}
 use Rattle.ftn_tree.specs.Grammar.{Spells, IsExpression, expr, IsBefore, truth_lexeme}
 use Rattle.ftn_tree.specs.Grammar as grammar
@@ -45,20 +45,20 @@ truth_starts : (value : Bool) → starts (truth_lexeme value) ≡ true
 truth_starts true = refl
 truth_starts false = refl
 
-sign_starts : (kind : Lexeme) (level limit : ℕ) → before kind ≡ Some (level, limit) → starts kind ≡ true
-sign_starts lexeme.Plus level limit e = refl
-sign_starts lexeme.Minus level limit e = refl
-sign_starts lexeme.Not level limit e = refl
-sign_starts _ level limit e = absurd (cc e)
+sign_starts : (kind : Lexeme) (how : Prefix) → before kind ≡ Some how → starts kind ≡ true
+sign_starts lexeme.Plus how e = refl
+sign_starts lexeme.Minus how e = refl
+sign_starts lexeme.Not how e = refl
+sign_starts _ how e = absurd (cc e)
 
 pub begun_tree : (tree : Tree) (level at : ℕ) (tokens : List Token) → Spells tree level at tokens → begins starts tokens ≡ true
 begun_tree (whole number value) level at tokens (zero_level, (here, split, (is_at, number_is))) = one_token lexeme.Whole here tokens refl split number_is.digits
 begun_tree (truth number value) level at tokens (zero_level, (here, split, (is_at, is))) = one_token (truth_lexeme value) here tokens (truth_starts value) split is
 begun_tree (quoted number value) level at tokens (zero_level, (here, split, (is_at, is, value_is))) = one_token lexeme.Quoted here tokens refl split is
 begun_tree (paren number inner) level at tokens (zero_level, (before, after, split, (here, is_one, (is_at, is)), rest)) = first_part before after tokens split (one_token lexeme.Open here before refl is_one is)
-begun_tree (unary number operand) level at tokens (k, limit, small, (before, after, split, (here, is_one, (is_at, is)), rest)) =
-    first_part before after tokens split (one_token (lexeme_of here) here before (sign_starts (lexeme_of here) level limit is) is_one refl)
-begun_tree (binary number left right) level at tokens (how, is_level, j, left_small, k, right_small, (before, after, split, says, rest)) = first_part before after tokens split (begun_tree left j at before says)
+begun_tree (unary number operator operand) level at tokens (how, is_operator, is_level, k, small, (before, after, split, (here, is_one, (is_at, is)), rest)) =
+    first_part before after tokens split (one_token (lexeme_of here) here before (sign_starts (lexeme_of here) how is) is_one refl)
+begun_tree (binary number operator left right) level at tokens (how, is_operator, is_level, j, left_small, k, right_small, (before, after, split, says, rest)) = first_part before after tokens split (begun_tree left j at before says)
 begun_tree (refer number given part) level at tokens (zero_level, (before, after, split, (here, is_one, (is_at, is)), rest)) = first_part before after tokens split (one_token lexeme.Word here before refl is_one is)
 
 pub begun_expr : (e : Expr) (at : ℕ) (tokens : List Token) → expr e at tokens → (begins starts tokens ≡ true) ⊎ ((tokens ≡ []) × (false ≡ true))

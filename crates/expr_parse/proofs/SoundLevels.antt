@@ -3,8 +3,9 @@ use Rattle.std.proofs.Common.{◌≡◌, refl, sym, ◌∙◌, ap, subst, arith,
 use Rattle.ftn_tree.specs.declared.expr.Expr.{Expr}
 use Rattle.ftn_tree.specs.declared.expr.Expr.TheVariants as exprs
 use Rattle.ftn_tree.specs.declared.lexeme.Lexeme.TheVariants as lexeme
+use Rattle.ftn_tree.specs.declared.operator.Operator.TheVariants as ops
 use Rattle.ftn_tree.specs.Lexemes.{lexeme_of}
-use Rattle.ftn_tree.specs.Levels.{Binding, between, loosest}
+use Rattle.ftn_tree.specs.Levels.{Binding, Prefix, between, loosest}
 use Rattle.ftn_tree.specs.Trees.{tree_of}
 use Rattle.ftn_tree.specs.Phrases.{◌·◌, token}
 use Rattle.ftn_tree.specs.Grammar.{IsBetween, IsBefore, Spells, expr}
@@ -22,10 +23,10 @@ use Rattle.expr_parse.proofs.SoundRules.{Upto, IsSound, took_expr, sound_primary
 
 spells_binary : (number : ℕ) (left right : Expr) (how : Binding) (j k : ℕ) (i m : Input) → j ≤ how.left → k ≤ how.right
     → Took (Spells (tree_of left) j · token (λ at here. (number ≡ at) × IsBetween here how) · Spells (tree_of right) k) i m
-    → Took (Spells (tree_of (exprs.Binary number left right)) how.level) i m
+    → Took (Spells (tree_of (exprs.Binary number how.operator left right)) how.level) i m
 spells_binary number left right how j k i m left_small right_small took =
-    retold (Spells (tree_of left) j · token (λ at here. (number ≡ at) × IsBetween here how) · Spells (tree_of right) k) (Spells (tree_of (exprs.Binary number left right)) how.level) i m
-    (λ at tokens says. subst (λ tree. Spells tree how.level at tokens) (sym (tree_binary number left right)) (how, refl, j, left_small, k, right_small, says)) took
+    retold (Spells (tree_of left) j · token (λ at here. (number ≡ at) × IsBetween here how) · Spells (tree_of right) k) (Spells (tree_of (exprs.Binary number how.operator left right)) how.level) i m
+    (λ at tokens says. subst (λ tree. Spells tree how.level at tokens) (sym (tree_binary number how.operator left right)) (how, refl, refl, j, left_small, k, right_small, says)) took
 
 module _ (read : ℕ → Reader Expr) (sound : IsSound read) where
   -- the last operand of a chain, which is to the right of those that were there
@@ -53,7 +54,7 @@ module _ (read : ℕ → Reader Expr) (sound : IsSound read) where
             let here = took_token (λ at here. lexeme_of here ≡ lexeme.Power) k (after k) (lists.took_mark lexeme.Power k there) in
             let op = token_took (λ at here. (k.at ≡ at) × IsBetween here power) k here.here (after k).rest here.row (refl, ap between here.says) in
             record {
-              last = exprs.Binary k.at operand later.last;
+              last = exprs.Binary k.at ops.Power operand later.last;
               is = sym (chained_last steps (operand, k.at) later.last) ∙ later.is;
               level = 1;
               small = lit≤ tt;
@@ -79,14 +80,14 @@ module _ (read : ℕ → Reader Expr) (sound : IsSound read) where
   unfolding reading.climb
   sound_climb zero most own level left i j found k by_own by_most took got = found_upto most level left found i j k by_most took got
   sound_climb (suc n) most own level left i j found k by_own by_most took got =
-      by (λ right how m. sound_climb n most how.level how.level (exprs.Binary j.at left right) i m found k (same_level how.level)) (next_operator most own j) refl got where
-        by : ((right : Expr) (how : Binding) (m : Input) → how.level ≤ most → Took (Spells (tree_of (exprs.Binary j.at left right)) how.level) i m
-            → reading.climb read n most how.level (exprs.Binary j.at left right) m ≡ Some (found, k) → Upto most found i k)
+      by (λ right how m. sound_climb n most how.level how.level (exprs.Binary j.at how.operator left right) i m found k (same_level how.level)) (next_operator most own j) refl got where
+        by : ((right : Expr) (how : Binding) (m : Input) → how.level ≤ most → Took (Spells (tree_of (exprs.Binary j.at how.operator left right)) how.level) i m
+            → reading.climb read n most how.level (exprs.Binary j.at how.operator left right) m ≡ Some (found, k) → Upto most found i k)
             → (next : Option Binding) → next_operator most own j ≡ next
-            → reading.go_on read next left (λ how. read how.right >>= (λ right. reading.climb read n most how.level (exprs.Binary j.at left right))) j ≡ Some (found, k) → Upto most found i k
+            → reading.go_on read next left (λ how. read how.right >>= (λ right. reading.climb read n most how.level (exprs.Binary j.at how.operator left right))) j ≡ Some (found, k) → Upto most found i k
         by onward None is got = found_upto most level left found i j k by_most took got
         by onward (Some how) is got =
-            let (right, m, read_right, rest) = bind_some (read how.right (after j)) (λ right. reading.climb read n most how.level (exprs.Binary j.at left right)) found k got in
+            let (right, m, read_right, rest) = bind_some (read how.right (after j)) (λ right. reading.climb read n most how.level (exprs.Binary j.at how.operator left right)) found k got in
             let op = operator_is most own how j is in
             let right_took = sound how.right (after j) right m (right_some (lexeme_of op.here) how op.is) read_right in
             let op_took = token_took (λ at here. (j.at ≡ at) × IsBetween here how) j op.here op.rest op.row (refl, op.is) in
@@ -105,23 +106,23 @@ module _ (read : ℕ → Reader Expr) (sound : IsSound read) where
   sound_level : IsSound (reading.level read)
   unfolding reading.level reading.operators reading.powers
   sound_level most i found j some got = by (next_sign most i) refl got where
-    by : (sign : Option (ℕ × ℕ)) → next_sign most i ≡ sign → reading.level_by read most sign i ≡ Some (found, j) → Upto most found i j
+    by : (sign : Option Prefix) → next_sign most i ≡ sign → reading.level_by read most sign i ≡ Some (found, j) → Upto most found i j
     by None is got =
         let (first, k, read_first, rest) = bind_some (reading.powers read i) (reading.operators read most 1) found j got in
         let powers = sound_powers (length i.rest) [] i first k read_first in
         sound_climb (length k.rest) most 1 powers.level first i k found j powers.small (small_first powers.level most powers.small some)
         (subst (λ first. Took (Spells (tree_of first) powers.level) i k) powers.is powers.took) rest
     by (Some how) is got =
-        let (operand, k, read_operand, rest) = bind_some (read how.1 (after i)) (λ operand. reading.operators read most how.0 (exprs.Unary i.at operand)) found j got in
+        let (operand, k, read_operand, rest) = bind_some (read how.operand (after i)) (λ operand. reading.operators read most how.level (exprs.Unary i.at how.operator operand)) found j got in
         let sign = sign_is most how i is in
         let facts = each_sign (lexeme_of sign.here) how sign.is in
-        let operand_took = sound how.1 (after i) operand k (limit_some how.0 how.1 facts.some) read_operand in
-        let op = token_took (λ at here. (i.at ≡ at) × IsBefore here how.0 how.1) i sign.here sign.rest sign.row (refl, sign.is) in
-        let phrase = token (λ at here. (i.at ≡ at) × IsBefore here how.0 how.1) · Spells (tree_of operand) operand_took.level in
-        let took = retold phrase (Spells (tree_of (exprs.Unary i.at operand)) how.0) i k
-        (λ at tokens says. subst (λ tree. Spells tree how.0 at tokens) (sym (tree_unary i.at operand)) (operand_took.level, how.1, operand_took.small, says))
-        (took_both (token (λ at here. (i.at ≡ at) × IsBefore here how.0 how.1)) (Spells (tree_of operand) operand_took.level) i (after i) k op operand_took.took) in
-        sound_climb (length k.rest) most how.0 how.0 (exprs.Unary i.at operand) i k found j (same_level how.0) sign.fits took rest
+        let operand_took = sound how.operand (after i) operand k (limit_some how.level how.operand facts.some) read_operand in
+        let op = token_took (λ at here. (i.at ≡ at) × IsBefore here how) i sign.here sign.rest sign.row (refl, sign.is) in
+        let phrase = token (λ at here. (i.at ≡ at) × IsBefore here how) · Spells (tree_of operand) operand_took.level in
+        let took = retold phrase (Spells (tree_of (exprs.Unary i.at how.operator operand)) how.level) i k
+        (λ at tokens says. subst (λ tree. Spells tree how.level at tokens) (sym (tree_unary i.at how.operator operand)) (how, refl, refl, operand_took.level, operand_took.small, says))
+        (took_both (token (λ at here. (i.at ≡ at) × IsBefore here how)) (Spells (tree_of operand) operand_took.level) i (after i) k op operand_took.took) in
+        sound_climb (length k.rest) most how.level how.level (exprs.Unary i.at how.operator operand) i k found j (same_level how.level) sign.fits took rest
 
 sound_read : (n : ℕ) → IsSound (reading.read n)
 unfolding reading.read

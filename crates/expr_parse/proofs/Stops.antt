@@ -5,7 +5,7 @@ use Rattle.ftn_tree.specs.declared.token.Token.{Token}
 use Rattle.ftn_tree.specs.declared.lexeme.Lexeme.{Lexeme}
 use Rattle.ftn_tree.specs.declared.lexeme.Lexeme.TheVariants as lexeme
 use Rattle.ftn_tree.specs.Lexemes.{lexeme_of, same_lexeme}
-use Rattle.ftn_tree.specs.Levels.{Binding, between, before}
+use Rattle.ftn_tree.specs.Levels.{Binding, Prefix, between, before}
 use Rattle.ftn_tree.specs.Trees.{Tree, whole, truth, quoted, paren, unary, binary, refer}
 use Rattle.ftn_tree.specs.Grammar.{IsBetween, truth_lexeme, Spells}
 use Rattle.expr_parse.specs.Input.{Input, holds_first, first_lexeme, sees, peek}
@@ -151,7 +151,7 @@ begun_some tree level i j took none = by i.rest (begun tree level i j took) none
 
 -- ---- a primary, or a chain of powers, begins with no operator
 
-abbrev no_sign : Option (ℕ × ℕ) → Bool
+abbrev no_sign : Option Prefix → Bool
 no_sign None = true
 no_sign (Some how) = false
 
@@ -179,9 +179,9 @@ unsigned_tree (whole number value) level at tokens small (zero_level, (here, spl
 unsigned_tree (truth number value) level at tokens small (zero_level, (here, split, (is_at, is))) = one_token (truth_lexeme value) here tokens (truth_unsigned value) split is
 unsigned_tree (quoted number value) level at tokens small (zero_level, (here, split, (is_at, is, value_is))) = one_token lexeme.Quoted here tokens refl split is
 unsigned_tree (paren number inner) level at tokens small (zero_level, (before, after, split, (here, is_one, (is_at, is)), rest)) = first_part before after tokens split (one_token lexeme.Open here before refl is_one is)
-unsigned_tree (unary number operand) level at tokens small (k, limit, small_operand, (before, after, split, (here, is_one, (is_at, is)), rest)) =
-    let facts = each_sign (lexeme_of here) (level, limit) is in absurd (too_great level limit small facts.above facts.some)
-unsigned_tree (binary number left right) level at tokens small (how, is_level, j, j_small, k, k_small, (before, after, split, says, (op_tokens, right_tokens, op_split, (op, op_one, (op_at, op_is)), rest))) =
+unsigned_tree (unary number operator operand) level at tokens small (how, is_operator, is_level, k, small_operand, (before, after, split, (here, is_one, (is_at, is)), rest)) =
+    let facts = each_sign (lexeme_of here) how is in absurd (too_great level how.operand small (is_level ∙ facts.above) facts.some)
+unsigned_tree (binary number operator left right) level at tokens small (how, is_operator, is_level, j, j_small, k, k_small, (before, after, split, says, (op_tokens, right_tokens, op_split, (op, op_one, (op_at, op_is)), rest))) =
     first_part before after tokens split (unsigned_tree left j at before (small_left level how.level how.left j small is_level (level_some (lexeme_of op) how op_is).1 j_small) says)
 unsigned_tree (refer number given part) level at tokens small (zero_level, (before, after, split, (here, is_one, (is_at, is)), rest)) = first_part before after tokens split (one_token lexeme.Word here before refl is_one is)
 
@@ -189,7 +189,7 @@ pub no_sign_before : (tree : Tree) (level most : ℕ) (i j : Input) → level �
 unfolding next_sign peek
 no_sign_before tree level most i j small took =
     by i.rest (subst (λ row. begins unsigned row ≡ true) (sym took.rest) (begins_after unsigned took.tokens j.rest (unsigned_tree tree level i.at took.tokens small took.says))) where
-      by_sign : (how : Option (ℕ × ℕ)) → no_sign how ≡ true → only_before most how ≡ None
+      by_sign : (how : Option Prefix) → no_sign how ≡ true → only_before most how ≡ None
       by_sign None e = refl
       by_sign (Some how) e = absurd (cc e)
 

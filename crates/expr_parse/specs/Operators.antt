@@ -3,7 +3,8 @@ use Rattle.std.specs.Prelude.{ℕ, Bool, ◌&&◌, nat_le, if◌then◌else◌, 
 use Rattle.ftn_tree.specs.declared.expr.Expr.{Expr}
 use Rattle.ftn_tree.specs.declared.expr.Expr.TheVariants as e
 use Rattle.ftn_tree.specs.declared.lexeme.Lexeme.{Lexeme}
-use Rattle.ftn_tree.specs.Levels.{Binding, between, before}
+use Rattle.ftn_tree.specs.declared.operator.Operator.TheVariants as operators
+use Rattle.ftn_tree.specs.Levels.{Binding, Prefix, between, before}
 use Rattle.expr_parse.specs.Input.{Input, peek}
 
 abbrev pub fits_between : ℕ → ℕ → Binding → Bool
@@ -21,19 +22,19 @@ between_at (Some kind) = between kind
 unfoldable pub next_operator : ℕ → ℕ → Input → Option Binding
 next_operator level own i = only_between level own (between_at (peek i))
 
-abbrev pub before_at : Option Lexeme → Option (ℕ × ℕ)
+abbrev pub before_at : Option Lexeme → Option Prefix
 before_at None = None
 before_at (Some kind) = before kind
 
-abbrev pub only_before : ℕ → Option (ℕ × ℕ) → Option (ℕ × ℕ)
+abbrev pub only_before : ℕ → Option Prefix → Option Prefix
 only_before level None = None
-only_before level (Some how) = if nat_le how.0 level then Some how else None
+only_before level (Some how) = if nat_le how.level level then Some how else None
 
 -- the same of an operator before an operand
-unfoldable pub next_sign : ℕ → Input → Option (ℕ × ℕ)
+unfoldable pub next_sign : ℕ → Input → Option Prefix
 next_sign level i = only_before level (before_at (peek i))
 
--- operands with the operators after them, and the last one: the operators associate to the right
+-- operands, each with the number of the `**` after it, and the last one: `**` associates to the right
 abbrev pub chained : List (Expr × ℕ) → Expr → Expr
 chained [] last = last
-chained (step ∷ steps) last = e.Binary step.1 step.0 (chained steps last)
+chained (step ∷ steps) last = e.Binary step.1 operators.Power step.0 (chained steps last)

@@ -8,7 +8,7 @@ use Rattle.ftn_tree.specs.declared.expr.Expr.TheViews.{roll-Part}
 use Rattle.ftn_tree.specs.declared.lexeme.Lexeme.{Lexeme}
 use Rattle.ftn_tree.specs.declared.lexeme.Lexeme.TheVariants as lexeme
 use Rattle.ftn_tree.specs.Lexemes.{lexeme_of}
-use Rattle.ftn_tree.specs.Levels.{Binding, loosest}
+use Rattle.ftn_tree.specs.Levels.{Binding, Prefix, loosest}
 use Rattle.ftn_tree.specs.Breaks.{number_of}
 use Rattle.expr_parse.specs.Input.{Reader, ◌>>=◌, ◌>>◌, pure, refuse, after, eat, sees, expect, name, peek}
 use Rattle.expr_parse.specs.Combinators.{◌<$>◌, each_after_comma_from, to_the_end}
@@ -111,14 +111,14 @@ module _ (read : ℕ → Reader Expr) where
   unfoldable pub climb : ℕ → ℕ → ℕ → Expr → Reader Expr
   climb zero level own left i = Some (left, i)
   climb (suc n) level own left i =
-      go_on (next_operator level own i) left (λ how. read how.right >>= (λ right. climb n level how.level (e.Binary i.at left right))) i
+      go_on (next_operator level own i) left (λ how. read how.right >>= (λ right. climb n level how.level (e.Binary i.at how.operator left right))) i
 
   unfoldable pub operators : ℕ → ℕ → Expr → Reader Expr
   operators level own left i = climb (length i.rest) level own left i
 
-  abbrev pub level_by : ℕ → Option (ℕ × ℕ) → Reader Expr
+  abbrev pub level_by : ℕ → Option Prefix → Reader Expr
   level_by level None i = (powers >>= operators level 1) i
-  level_by level (Some how) i = (read how.1 >>= (λ operand. operators level how.0 (e.Unary i.at operand))) (after i)
+  level_by level (Some how) i = (read how.operand >>= (λ operand. operators level how.level (e.Unary i.at how.operator operand))) (after i)
 
   unfoldable pub level : ℕ → Reader Expr
   level most i = level_by most (next_sign most i) i

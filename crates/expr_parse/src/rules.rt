@@ -227,7 +227,7 @@ impl<F: Fn(Global, &mut Cursor<'_>, usize, u8) -> Result<Expr, Misfit>> Rules<F>
             let op = cursor.at();
             cursor.skip();
             let right = self.read(cursor, how.right)?;
-            left = binary(self.alloc, op, left, right)?;
+            left = binary(self.alloc, op, how.operator, left, right)?;
             own = how.level;
         }
         Ok(left)
@@ -239,14 +239,14 @@ impl<F: Fn(Global, &mut Cursor<'_>, usize, u8) -> Result<Expr, Misfit>> Rules<F>
         requires { Nests self.now.depth (F.pre self.now.read) (F.post self.now.read) }
         ensures { Gives (spec.level (spec.read self.now.depth) most cursor.old) result cursor.new }
     {
-        let Some((made, operand)) = next_sign(cursor, most) else {
+        let Some(how) = next_sign(cursor, most) else {
             let first = self.powers(cursor)?;
             return self.operators(cursor, most, first, 1);
         };
         let op = cursor.at();
         cursor.skip();
-        let arg = self.read(cursor, operand)?;
-        let first = unary(self.alloc, op, arg)?;
-        self.operators(cursor, most, first, made)
+        let arg = self.read(cursor, how.operand)?;
+        let first = unary(self.alloc, op, how.operator, arg)?;
+        self.operators(cursor, most, first, how.level)
     }
 }
