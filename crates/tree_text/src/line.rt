@@ -12,7 +12,7 @@ pub fn join(out: &mut Vec<u8>, text: &[u8]) -> Result<(), NoMemory> {
 
 /// Whether no blank stands after this byte.
 fn opens(byte: u8) -> bool {
-    matches!(byte, b'\n' | b'(' | b'[')
+    matches!(byte, b'\n' | b' ' | b'(' | b'[')
 }
 
 /// Whether no blank stands before this byte.

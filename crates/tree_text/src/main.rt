@@ -1,6 +1,8 @@
 //! `tree_text`: the tokens, statements and program units of a Fortran text on standard input, or its first fault.
 #![tactic(auto)]
 
+ghost use Rattle.std.specs.Prelude.{◌<◌, ◌≤◌, ◌^◌, length};
+
 mod actions;
 mod declarations;
 mod expressions;
@@ -62,7 +64,9 @@ fn put_fault(
     text: &[u8],
     kind: FaultKind,
     at: u32,
-) -> Result<(), NoMemory> {
+) -> Result<(), NoMemory>
+    requires { length text.now ≤ 4194304 }
+{
     join(out, b"fault")?;
     put(out, kind.name().as_bytes())?;
     put_place(
@@ -95,7 +99,10 @@ fn put_parsed(
     text: &[u8],
     tokens: Tokens,
     shown: Shown,
-) -> Result<Status, NoMemory> {
+) -> Result<Status, NoMemory>
+    requires short { length text.now ≤ 4194304 }
+    requires few { length tokens.statements < 2 ^ 32 }
+{
     match parse(alloc, tokens) {
         Ok(tree) => {
             put_tree(alloc, out, &tree, shown)?;
