@@ -283,16 +283,20 @@ pub fn put_groups(
     Ok(())
 }
 
-fn put_set(out: &mut Vec<u8>, tokens: &Tokens, set: &[Designator]) -> Result<(), NoMemory> {
-    put(out, b"(")?;
-    for (at, designator) in set.iter().enumerate() {
+/// Adds variables and array elements with commas between them.
+pub fn put_designators(
+    out: &mut Vec<u8>,
+    tokens: &Tokens,
+    list: &[Designator],
+) -> Result<(), NoMemory> {
+    for (at, designator) in list.iter().enumerate() {
         put_comma(out, at)?;
         put_token(out, tokens, designator.name)?;
         if let Some(subscripts) = &designator.subscripts {
             put_arguments(out, tokens, subscripts.as_slice())?;
         }
     }
-    put(out, b")")
+    Ok(())
 }
 
 /// Adds the sets of EQUIVALENCE.
@@ -303,7 +307,9 @@ pub fn put_sets(
 ) -> Result<(), NoMemory> {
     for (at, set) in sets.iter().enumerate() {
         put_comma(out, at)?;
-        put_set(out, tokens, set.as_slice())?;
+        put(out, b"(")?;
+        put_designators(out, tokens, set.as_slice())?;
+        put(out, b")")?;
     }
     Ok(())
 }

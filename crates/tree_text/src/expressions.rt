@@ -16,13 +16,18 @@ pub fn put_expr(out: &mut Vec<u8>, tokens: &Tokens, expr: &Expr) -> Result<(), N
             put_expr(out, tokens, inner.get())?;
             put(out, b")")
         }
-        Expr::Unary { op, arg } => {
+        Expr::Unary { op, arg, .. } => {
             put(out, b"[")?;
             put_token(out, tokens, *op)?;
             put_expr(out, tokens, arg.get())?;
             put(out, b"]")
         }
-        Expr::Binary { op, left, right } => {
+        Expr::Binary {
+            op,
+            left,
+            right,
+            ..
+        } => {
             put(out, b"[")?;
             put_expr(out, tokens, left.get())?;
             put_token(out, tokens, *op)?;

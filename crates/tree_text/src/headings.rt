@@ -12,6 +12,8 @@ fn text_of(word: EndWord) -> &'static [u8] {
     match word {
         EndWord::Program => b"PROGRAM",
         EndWord::Module => b"MODULE",
+        EndWord::BlockData { joined: true } => b"BLOCKDATA",
+        EndWord::BlockData { joined: false } => b"BLOCK DATA",
         EndWord::Subroutine => b"SUBROUTINE",
         EndWord::Function => b"FUNCTION",
         EndWord::Interface => b"INTERFACE",

@@ -4,6 +4,7 @@
 ghost use Rattle.std.specs.Prelude.{◌<◌, ◌≤◌, ◌^◌, length};
 
 mod actions;
+mod data;
 mod declarations;
 mod expressions;
 mod headings;
@@ -17,7 +18,7 @@ use crate::statements::put_statements;
 use crate::tokens::put_tokens;
 use crate::units::put_units;
 use free_scan::{ScanFault, scan};
-use ftn_base::{Edition, FaultKind, NoMemory, Status, Steps, line_and_column};
+use ftn_base::{Edition, FaultKind, MOST_FILE_BYTES, NoMemory, Status, Steps, line_and_column};
 use ftn_tree::{FileTree, Tokens};
 use std::alloc::Global;
 use std::env::{Env, FillError};
@@ -25,9 +26,6 @@ use std::io;
 use std::io::{Read, Write};
 use std::process::ExitCode;
 use unit_parse::{ParseFault, parse};
-
-/// How many bytes a text may have.
-const MOST: usize = 4_194_304;
 
 /// What is shown of a text.
 #[derive(Clone, Copy)]
@@ -123,7 +121,7 @@ fn put_text(
     text: &[u8],
     shown: Shown,
 ) -> Result<Status, NoMemory> {
-    if text.len() > MOST {
+    if text.len() > MOST_FILE_BYTES as usize {
         join(out, b"limit file\n")?;
         return Ok(Status::Limit);
     }

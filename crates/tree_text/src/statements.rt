@@ -4,6 +4,7 @@ use crate::actions::{
     put_assignment, put_call, put_code, put_condition, put_control, put_items, put_label,
     put_ranges,
 };
+use crate::data::put_data;
 use crate::declarations::{
     put_access, put_arrays, put_attributes, put_colons, put_constants, put_entities, put_groups,
     put_intent, put_listed, put_procedure, put_save_items, put_sets, put_type,
@@ -39,6 +40,14 @@ fn put_heading(out: &mut Vec<u8>, tokens: &Tokens, form: &Form) -> Result<(), No
     match form {
         Form::Program { name } => put_named(out, tokens, b"PROGRAM", *name),
         Form::Module { name } => put_named(out, tokens, b"MODULE", *name),
+        Form::BlockData { joined, name } => {
+            let word = if *joined {
+                b"BLOCKDATA".as_slice()
+            } else {
+                b"BLOCK DATA"
+            };
+            put_unnamed(out, tokens, word, *name)
+        }
         Form::Subroutine { name, dummies } => put_subroutine(out, tokens, *name, dummies),
         Form::Function {
             ty,
@@ -124,7 +133,7 @@ fn put_declaration(out: &mut Vec<u8>, tokens: &Tokens, form: &Form) -> Result<()
     }
 }
 
-/// Adds a statement that gives bounds, values or storage (5.2.5, 5.2.10, 5.5).
+/// Adds a statement that gives bounds, values or storage (5.2.5, 5.2.9, 5.2.10, 5.5).
 fn put_storage(out: &mut Vec<u8>, tokens: &Tokens, form: &Form) -> Result<(), NoMemory> {
     match form {
         Form::Dimension { colons, arrays } => {
@@ -135,6 +144,10 @@ fn put_storage(out: &mut Vec<u8>, tokens: &Tokens, form: &Form) -> Result<(), No
         Form::Parameter { constants } => {
             put(out, b"PARAMETER")?;
             put_constants(out, tokens, constants.as_slice())
+        }
+        Form::Data { groups } => {
+            put(out, b"DATA")?;
+            put_data(out, tokens, groups.as_slice())
         }
         Form::Common { groups } => {
             put(out, b"COMMON")?;
@@ -239,6 +252,7 @@ fn put_form(out: &mut Vec<u8>, tokens: &Tokens, form: &Form) -> Result<(), NoMem
         }
         Form::Program { .. }
         | Form::Module { .. }
+        | Form::BlockData { .. }
         | Form::Subroutine { .. }
         | Form::Function { .. }
         | Form::Interface { .. }
@@ -255,6 +269,7 @@ fn put_form(out: &mut Vec<u8>, tokens: &Tokens, form: &Form) -> Result<(), NoMem
         | Form::Intent { .. } => put_declaration(out, tokens, form),
         Form::Dimension { .. }
         | Form::Parameter { .. }
+        | Form::Data { .. }
         | Form::Common { .. }
         | Form::Equivalence { .. } => put_storage(out, tokens, form),
         Form::IfThen { .. }
