@@ -1,4 +1,4 @@
-//! Statements: the words of the language in capitals, all names in small letters.
+//! Statements: the words of the language in capitals, all names in small letters. Each function takes what the one before it leaves.
 
 use crate::actions::{
     put_assignment, put_call, put_code, put_condition, put_control, put_items, put_label,
@@ -35,6 +35,103 @@ fn put_unnamed(
     put_maybe(out, tokens, name)
 }
 
+/// Adds a statement that gives bounds, values or storage (5.2.5, 5.2.9, 5.2.10, 5.5).
+fn put_storage(out: &mut Vec<u8>, tokens: &Tokens, form: &Form) -> Result<(), NoMemory> {
+    match form {
+        Form::Dimension { colons, arrays } => {
+            put(out, b"DIMENSION")?;
+            put_colons(out, *colons)?;
+            put_arrays(out, tokens, arrays.as_slice())
+        }
+        Form::Parameter { constants } => {
+            put(out, b"PARAMETER")?;
+            put_constants(out, tokens, constants.as_slice())
+        }
+        Form::Data { groups } => {
+            put(out, b"DATA")?;
+            put_data(out, tokens, groups.as_slice())
+        }
+        Form::Common { groups } => {
+            put(out, b"COMMON")?;
+            put_groups(out, tokens, groups.as_slice())
+        }
+        Form::Equivalence { sets } => {
+            put(out, b"EQUIVALENCE")?;
+            put_sets(out, tokens, sets.as_slice())
+        }
+        _ => put(out, b"?"),
+    }
+}
+
+/// Adds a statement that lists names alone (5.2.1, 5.2.3, 12.3.2.2, 12.3.2.3).
+fn put_naming(out: &mut Vec<u8>, tokens: &Tokens, form: &Form) -> Result<(), NoMemory> {
+    match form {
+        Form::Access {
+            word,
+            colons,
+            names,
+        } => {
+            put_access(out, *word)?;
+            put_listed(out, tokens, *colons, names.as_slice())
+        }
+        Form::External { word, names } => {
+            put_procedure(out, *word)?;
+            put_names(out, tokens, names.as_slice())
+        }
+        Form::Intent {
+            mode,
+            colons,
+            names,
+        } => {
+            put_intent(out, *mode)?;
+            put_listed(out, tokens, *colons, names.as_slice())
+        }
+        _ => put_storage(out, tokens, form),
+    }
+}
+
+/// Adds a type declaration or SAVE (5.1, 5.2.4).
+fn put_declaration(out: &mut Vec<u8>, tokens: &Tokens, form: &Form) -> Result<(), NoMemory> {
+    match form {
+        Form::Declare {
+            ty,
+            attributes,
+            colons,
+            entities,
+        } => {
+            put_type(out, tokens, ty)?;
+            put_attributes(out, tokens, attributes.as_slice())?;
+            put_colons(out, *colons)?;
+            put_entities(out, tokens, entities.as_slice())
+        }
+        Form::Save { colons, items } => {
+            put(out, b"SAVE")?;
+            put_colons(out, *colons)?;
+            put_save_items(out, tokens, items.as_slice())
+        }
+        _ => put_naming(out, tokens, form),
+    }
+}
+
+/// Adds USE or IMPLICIT (5.3, 11.3.2).
+fn put_use(out: &mut Vec<u8>, tokens: &Tokens, form: &Form) -> Result<(), NoMemory> {
+    match form {
+        Form::UseAll { module, renames } => {
+            put_named(out, tokens, b"USE", *module)?;
+            put_renames(out, tokens, renames.as_slice())
+        }
+        Form::UseOnly { module, items } => {
+            put_named(out, tokens, b"USE", *module)?;
+            put_only(out, tokens, items.as_slice())
+        }
+        Form::Implicit { groups } => {
+            put(out, b"IMPLICIT")?;
+            put_implicit(out, tokens, groups)
+        }
+        _ => put_declaration(out, tokens, form),
+    }
+}
+
 /// Adds a statement that begins or ends a program unit or a part of one (Fortran 90, 11, 12.3.2.1, 12.5.2).
 fn put_heading(out: &mut Vec<u8>, tokens: &Tokens, form: &Form) -> Result<(), NoMemory> {
     match form {
@@ -67,102 +164,12 @@ fn put_heading(out: &mut Vec<u8>, tokens: &Tokens, form: &Form) -> Result<(), No
         }
         Form::Contains => put(out, b"CONTAINS"),
         Form::End { of } => put_ending(out, tokens, *of),
-        _ => Ok(()),
+        _ => put_use(out, tokens, form),
     }
 }
 
-/// Adds USE or IMPLICIT (5.3, 11.3.2).
-fn put_use(out: &mut Vec<u8>, tokens: &Tokens, form: &Form) -> Result<(), NoMemory> {
-    match form {
-        Form::UseAll { module, renames } => {
-            put_named(out, tokens, b"USE", *module)?;
-            put_renames(out, tokens, renames.as_slice())
-        }
-        Form::UseOnly { module, items } => {
-            put_named(out, tokens, b"USE", *module)?;
-            put_only(out, tokens, items.as_slice())
-        }
-        Form::Implicit { groups } => {
-            put(out, b"IMPLICIT")?;
-            put_implicit(out, tokens, groups)
-        }
-        _ => Ok(()),
-    }
-}
-
-/// Adds a type declaration, or a statement that lists names alone (5.1, 5.2.1, 5.2.3, 5.2.4, 12.3.2.2).
-fn put_declaration(out: &mut Vec<u8>, tokens: &Tokens, form: &Form) -> Result<(), NoMemory> {
-    match form {
-        Form::Declare {
-            ty,
-            attributes,
-            colons,
-            entities,
-        } => {
-            put_type(out, tokens, ty)?;
-            put_attributes(out, tokens, attributes.as_slice())?;
-            put_colons(out, *colons)?;
-            put_entities(out, tokens, entities.as_slice())
-        }
-        Form::Save { colons, items } => {
-            put(out, b"SAVE")?;
-            put_colons(out, *colons)?;
-            put_save_items(out, tokens, items.as_slice())
-        }
-        Form::Access {
-            word,
-            colons,
-            names,
-        } => {
-            put_access(out, *word)?;
-            put_listed(out, tokens, *colons, names.as_slice())
-        }
-        Form::External { word, names } => {
-            put_procedure(out, *word)?;
-            put_names(out, tokens, names.as_slice())
-        }
-        Form::Intent {
-            mode,
-            colons,
-            names,
-        } => {
-            put_intent(out, *mode)?;
-            put_listed(out, tokens, *colons, names.as_slice())
-        }
-        _ => Ok(()),
-    }
-}
-
-/// Adds a statement that gives bounds, values or storage (5.2.5, 5.2.9, 5.2.10, 5.5).
-fn put_storage(out: &mut Vec<u8>, tokens: &Tokens, form: &Form) -> Result<(), NoMemory> {
-    match form {
-        Form::Dimension { colons, arrays } => {
-            put(out, b"DIMENSION")?;
-            put_colons(out, *colons)?;
-            put_arrays(out, tokens, arrays.as_slice())
-        }
-        Form::Parameter { constants } => {
-            put(out, b"PARAMETER")?;
-            put_constants(out, tokens, constants.as_slice())
-        }
-        Form::Data { groups } => {
-            put(out, b"DATA")?;
-            put_data(out, tokens, groups.as_slice())
-        }
-        Form::Common { groups } => {
-            put(out, b"COMMON")?;
-            put_groups(out, tokens, groups.as_slice())
-        }
-        Form::Equivalence { sets } => {
-            put(out, b"EQUIVALENCE")?;
-            put_sets(out, tokens, sets.as_slice())
-        }
-        _ => Ok(()),
-    }
-}
-
-/// Adds a statement of an IF, DO or SELECT CASE construct (8.1).
-fn put_construct(out: &mut Vec<u8>, tokens: &Tokens, form: &Form) -> Result<(), NoMemory> {
+/// Adds a statement of an IF or SELECT CASE construct (8.1.2, 8.1.3).
+fn put_choice(out: &mut Vec<u8>, tokens: &Tokens, form: &Form) -> Result<(), NoMemory> {
     match form {
         Form::IfThen { condition } => {
             put(out, b"IF")?;
@@ -175,20 +182,6 @@ fn put_construct(out: &mut Vec<u8>, tokens: &Tokens, form: &Form) -> Result<(), 
             put(out, b"THEN")
         }
         Form::Else => put(out, b"ELSE"),
-        Form::Do { label, control } => {
-            put_label(out, tokens, *label)?;
-            put(out, b"DO")?;
-            put_control(out, tokens, control)
-        }
-        Form::DoWhile {
-            label,
-            comma,
-            condition,
-        } => {
-            put_label(out, tokens, *label)?;
-            put(out, if *comma { b"DO, WHILE" } else { b"DO WHILE" })?;
-            put_condition(out, tokens, condition)
-        }
         Form::Select { joined, selector } => {
             put(
                 out,
@@ -204,7 +197,28 @@ fn put_construct(out: &mut Vec<u8>, tokens: &Tokens, form: &Form) -> Result<(), 
             put(out, b"CASE")?;
             put_ranges(out, tokens, ranges)
         }
-        _ => Ok(()),
+        _ => put_heading(out, tokens, form),
+    }
+}
+
+/// Adds the opening of a DO construct (8.1.4).
+fn put_loop(out: &mut Vec<u8>, tokens: &Tokens, form: &Form) -> Result<(), NoMemory> {
+    match form {
+        Form::Do { label, control } => {
+            put_label(out, tokens, *label)?;
+            put(out, b"DO")?;
+            put_control(out, tokens, control)
+        }
+        Form::DoWhile {
+            label,
+            comma,
+            condition,
+        } => {
+            put_label(out, tokens, *label)?;
+            put(out, if *comma { b"DO, WHILE" } else { b"DO WHILE" })?;
+            put_condition(out, tokens, condition)
+        }
+        _ => put_choice(out, tokens, form),
     }
 }
 
@@ -234,7 +248,7 @@ fn put_action(out: &mut Vec<u8>, tokens: &Tokens, form: &Form) -> Result<(), NoM
             put(out, b"READ")?;
             put_items(out, tokens, *style, items.as_slice())
         }
-        _ => Ok(()),
+        _ => put_loop(out, tokens, form),
     }
 }
 
@@ -250,43 +264,7 @@ fn put_form(out: &mut Vec<u8>, tokens: &Tokens, form: &Form) -> Result<(), NoMem
             put_condition(out, tokens, condition)?;
             put_action(out, tokens, inner.get())
         }
-        Form::Program { .. }
-        | Form::Module { .. }
-        | Form::BlockData { .. }
-        | Form::Subroutine { .. }
-        | Form::Function { .. }
-        | Form::Interface { .. }
-        | Form::ModuleProcedure { .. }
-        | Form::Contains
-        | Form::End { .. } => put_heading(out, tokens, form),
-        Form::UseAll { .. } | Form::UseOnly { .. } | Form::Implicit { .. } => {
-            put_use(out, tokens, form)
-        }
-        Form::Declare { .. }
-        | Form::Save { .. }
-        | Form::Access { .. }
-        | Form::External { .. }
-        | Form::Intent { .. } => put_declaration(out, tokens, form),
-        Form::Dimension { .. }
-        | Form::Parameter { .. }
-        | Form::Data { .. }
-        | Form::Common { .. }
-        | Form::Equivalence { .. } => put_storage(out, tokens, form),
-        Form::IfThen { .. }
-        | Form::ElseIf { .. }
-        | Form::Else
-        | Form::Do { .. }
-        | Form::DoWhile { .. }
-        | Form::Select { .. }
-        | Form::Case { .. } => put_construct(out, tokens, form),
-        Form::Assign { .. }
-        | Form::Call { .. }
-        | Form::Exit { .. }
-        | Form::Stop { .. }
-        | Form::Return
-        | Form::Continue
-        | Form::Print { .. }
-        | Form::Read { .. } => put_action(out, tokens, form),
+        other => put_action(out, tokens, other),
     }
 }
 
