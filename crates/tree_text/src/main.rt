@@ -1,0 +1,172 @@
+//! `tree_text`: the tokens, statements and program units of a Fortran text on standard input, or its first fault.
+#![tactic(auto)]
+
+ghost use Rattle.std.specs.Prelude.{◌<◌, ◌≤◌, ◌^◌, length};
+
+mod actions;
+mod data;
+mod declarations;
+mod expressions;
+mod headings;
+mod line;
+mod statements;
+mod tokens;
+mod units;
+
+use crate::line::{join, put, put_place};
+use crate::statements::put_statements;
+use crate::tokens::put_tokens;
+use crate::units::put_units;
+use free_scan::{ScanFault, scan};
+use ftn_base::{Edition, FaultKind, MOST_FILE_BYTES, NoMemory, Status, Steps, line_and_column};
+use ftn_tree::{FileTree, Tokens};
+use std::alloc::Global;
+use std::env::{Env, FillError};
+use std::io;
+use std::io::{Read, Write};
+use std::process::ExitCode;
+use unit_parse::{ParseFault, parse};
+
+/// What is shown of a text.
+#[derive(Clone, Copy)]
+enum Shown {
+    Tokens,
+    Statements,
+    Units,
+    Both,
+}
+
+/// The one word that says what is shown; without a word it is statements and units. Nothing where the words are others.
+fn asked(rt: &HostRuntime) -> Option<Shown> {
+    let mut buffer = [0u8; 16];
+    let shown = match rt.arg(1, &mut buffer) {
+        Err(FillError::NotPresent) => return Some(Shown::Both),
+        Err(FillError::TooLong) => return None,
+        Ok(count) => match &buffer[..count] {
+            b"tokens" => Shown::Tokens,
+            b"statements" => Shown::Statements,
+            b"units" => Shown::Units,
+            _ => return None,
+        },
+    };
+    match rt.arg(2, &mut buffer) {
+        Err(FillError::NotPresent) => Some(shown),
+        _ => None,
+    }
+}
+
+/// Adds the line of a fault.
+fn put_fault(
+    alloc: Global,
+    out: &mut Vec<u8>,
+    text: &[u8],
+    kind: FaultKind,
+    at: u32,
+) -> Result<(), NoMemory>
+    requires { length text.now ≤ 4194304 }
+{
+    join(out, b"fault")?;
+    put(out, kind.name().as_bytes())?;
+    put_place(
+        alloc,
+        out,
+        line_and_column(text, (at as usize).min(text.len())),
+    )?;
+    join(out, b"\n")
+}
+
+fn put_tree(
+    alloc: Global,
+    out: &mut Vec<u8>,
+    tree: &FileTree,
+    shown: Shown,
+) -> Result<(), NoMemory> {
+    if !matches!(shown, Shown::Units) {
+        put_statements(alloc, out, &tree.tokens, tree.statements.as_slice())?;
+    }
+    if !matches!(shown, Shown::Statements) {
+        put_units(alloc, out, tree, tree.units.as_slice(), 0)?;
+    }
+    Ok(())
+}
+
+/// Adds the tree that these tokens have, or the line of their first fault.
+fn put_parsed(
+    alloc: Global,
+    out: &mut Vec<u8>,
+    text: &[u8],
+    tokens: Tokens,
+    shown: Shown,
+) -> Result<Status, NoMemory>
+    requires short { length text.now ≤ 4194304 }
+    requires few { length tokens.statements < 2 ^ 32 }
+{
+    match parse(alloc, tokens) {
+        Ok(tree) => {
+            put_tree(alloc, out, &tree, shown)?;
+            Ok(Status::Done)
+        }
+        Err(ParseFault::At { kind, range }) => {
+            put_fault(alloc, out, text, kind, range.start)?;
+            Ok(Status::BadProject)
+        }
+        Err(ParseFault::NoMemory) => Err(NoMemory),
+    }
+}
+
+/// Adds what is shown of a text. It gives how that ends.
+fn put_text(
+    alloc: Global,
+    out: &mut Vec<u8>,
+    text: &[u8],
+    shown: Shown,
+) -> Result<Status, NoMemory> {
+    if text.len() > MOST_FILE_BYTES as usize {
+        join(out, b"limit file\n")?;
+        return Ok(Status::Limit);
+    }
+    let mut steps = Steps::new(());
+    let tokens = match scan(alloc, text, Edition::F90, &mut steps) {
+        Ok(tokens) => tokens,
+        Err(ScanFault::At { kind, at }) => {
+            put_fault(alloc, out, text, kind, at)?;
+            return Ok(Status::BadProject);
+        }
+        Err(ScanFault::NoMemory) => return Err(NoMemory),
+    };
+    if matches!(shown, Shown::Tokens) {
+        put_tokens(alloc, out, &tokens)?;
+        return Ok(Status::Done);
+    }
+    put_parsed(alloc, out, text, tokens, shown)
+}
+
+/// Reads the text and writes what is shown of it.
+fn answer(rt: &HostRuntime) -> Result<Status, NoMemory> {
+    let mut out = Vec::new(rt.alloc());
+    let status = match asked(rt) {
+        Some(shown) => {
+            let mut text = Vec::new(rt.alloc());
+            if rt.reader().read_to_end(&mut text).is_err() {
+                return Ok(Status::InputFault);
+            }
+            put_text(rt.alloc(), &mut out, &text, shown)?
+        }
+        None => {
+            join(&mut out, b"one word at most: tokens, statements or units\n")?;
+            Status::BadWords
+        }
+    };
+    match io::writer(rt).write_all(&out) {
+        Ok(()) => Ok(status),
+        Err(_) => Ok(Status::OutputFault),
+    }
+}
+
+fn main(rt: HostRuntime) -> ExitCode {
+    let status = match answer(&rt) {
+        Ok(status) => status,
+        Err(NoMemory) => Status::NoMemory,
+    };
+    ExitCode::from(status.code())
+}
