@@ -46,6 +46,7 @@ fn part_of(alloc: Global, line: &[u8]) -> Result<Part<'_>, RowFault> {
 /// front of these says how many times.
 fn add_line(body: &mut Vec<u8>, line: &[u8]) -> Result<(), RowFault> {
     let (times, line) = times_of(line)?;
+    body.reserve((times as usize).saturating_mul(line.len()))?;
     for _ in 0..times {
         match line {
             [b'|', text @ ..] => {

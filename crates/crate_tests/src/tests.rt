@@ -1,0 +1,14 @@
+//! Each call is asked once or a few times, with all the memory that it needs. A function that asks answers nothing
+//! where a call is refused what it should be given.
+
+mod base;
+mod devices;
+mod edit_rows;
+mod fields;
+mod item_rows;
+mod modules;
+mod plan_rows;
+mod storage;
+mod texts;
+mod tie_rows;
+mod types;
