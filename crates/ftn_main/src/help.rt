@@ -4,6 +4,8 @@
 pub const HELP: &str = "\
 ftn_tool refactors projects of free-form Fortran 90 files in the current folder.
 It never runs the program. It changes files only where every result stays.
+That is proved over a store that gives back what was put; a real folder is
+trusted to be one.
 
 Usage:
   ftn_tool apply rename FILE LINE COLUMN NEW
@@ -12,10 +14,12 @@ Usage:
   ftn_tool -h | --help
   ftn_tool --version
 
-The project is every file of the folder whose name ends in .f90. Each is read,
-and the first fault is told. This version changes projects of one file with one
-main program of integer scalars, assignments and `print *`; any other project
-without a fault is `fault NotBuilt -`.
+The project is every regular file of the folder whose name ends in .f90 and has
+only bytes from 33 to 126. What else ends in .f90, links among it, is left out;
+standard error tells each. The files are read, and the first fault is told. This
+version changes projects of one file with one main program of integer scalars,
+assignments and `print *`; any other project without a fault is
+`fault NotBuilt -`.
 
 Output, one line, and exit codes:
   0  applying 1 files          the rename was made
@@ -23,7 +27,8 @@ Output, one line, and exit codes:
   2  bad word K                the K-th word is bad or missing
   3  fault NAME PLACE          the project has this fault first; no file changed
   4  limit WHICH               the project is too large; no file changed
-  5  store fault               a file could not be read or written
+  5  store fault               a file could not be read or written; standard
+                               error tells which, and why
   7                            standard output failed; no file changed
   8                            out of memory; no file changed
 PLACE is FILE:LINE:COLUMN, or - where there is none.

@@ -10,7 +10,7 @@ use ftn_base::Status;
 use ftn_tool::tool;
 use std::io;
 use std::process::ExitCode;
-use store_io::{DirStore, StdSink, StdSource};
+use store_io::{DirStore, Failure, StdSink, StdSource};
 
 /// Prints a text of the program's own.
 fn show(rt: &HostRuntime, text: &str) -> Status {
@@ -20,12 +20,30 @@ fn show(rt: &HostRuntime, text: &str) -> Status {
     }
 }
 
-/// Carries out the command over the current folder, standard input and standard output.
+/// Tells on standard error why the store failed.
+fn tell_failure(rt: &HostRuntime, failure: &Failure) {
+    let _ = match failure.file() {
+        Some(file) => eprintln!(rt; "ftn_tool: {file}: {}: {}", failure.step, failure.reason),
+        None => eprintln!(rt; "ftn_tool: {}: {}", failure.step, failure.reason),
+    };
+}
+
+/// Carries out the command over the current folder, standard input and standard output. Which names were left out of
+/// the listing, and why the store failed, is told on standard error.
 fn carry_out(rt: &HostRuntime, words: &[String]) -> Status {
     let mut store = DirStore::new(rt, rt.alloc());
     let mut input = StdSource::new(rt.reader());
     let mut out = StdSink::new(io::writer(rt));
-    tool(rt.alloc(), words, &mut store, &mut input, &mut out)
+    let status = tool(rt.alloc(), words, &mut store, &mut input, &mut out);
+    for file in store.left_out() {
+        let _ = eprintln!(rt; "ftn_tool: {}: left out: {}", file.name, file.reason);
+    }
+    if status == Status::StoreFault
+        && let Some(failure) = store.failure()
+    {
+        tell_failure(rt, failure);
+    }
+    status
 }
 
 /// The hint goes to standard error, so that the output is the answer alone.

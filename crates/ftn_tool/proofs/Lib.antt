@@ -8,3 +8,4 @@ pub mod Writing
 pub mod NewProject
 pub mod Applying
 pub mod Promising
+pub mod Rising

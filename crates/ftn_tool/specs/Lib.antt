@@ -7,3 +7,4 @@ pub mod Projects
 pub mod Answers
 pub mod Replies
 pub mod Orders
+pub mod Rising

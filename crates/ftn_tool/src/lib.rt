@@ -7,6 +7,7 @@ mod checking;
 mod command;
 mod limit;
 mod lines;
+mod order;
 mod project;
 mod reply;
 mod top;

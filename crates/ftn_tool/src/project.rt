@@ -8,6 +8,7 @@ ghost use Rattle.ftn_tool.specs.Limits.{limit_of, most_project_bytes, past_bytes
 ghost use Rattle.ftn_tool.specs.Projects as spec;
 
 use crate::limit::{Limit, MOST_FILE_BYTES, MOST_FILES, MOST_PROJECT_BYTES};
+use crate::order::put_in_order;
 use ftn_base::{Bytes, FileName};
 use std::alloc::Global;
 use store_io::{ListFault, ReadFault, Store};
@@ -23,7 +24,8 @@ pub enum ProjectFault {
     NoMemory,
 }
 
-/// The names and texts of the project files of the store, in byte order of names. It fails at the first limit
+/// The names and texts of the project files of the store, in byte order of names, each once: a store that doesn't tell
+/// its files may list them in any order, and more than once. It fails at the first limit
 /// that they pass: how many they are is counted before any is read, and each file is measured when it is read,
 /// first by itself and then with those before it.
 pub fn project_files<S: Store>(
@@ -38,11 +40,12 @@ pub fn project_files<S: Store>(
     ensures later { S.faults store.old ≤ S.faults store.new }
     ensures failed { IsErrOf result ProjectFault.StoreFailed → Rose (S.faults store.old) (S.faults store.new) }
 {
-    let names = match store.list() {
+    let mut names = match store.list() {
         Ok(names) => names,
         Err(ListFault::Failed) => return Err(ProjectFault::StoreFailed),
         Err(ListFault::NoMemory) => return Err(ProjectFault::NoMemory),
     };
+    put_in_order(&mut names);
     if count_sources(&names) > MOST_FILES {
         return Err(ProjectFault::Past(Limit::Files));
     }

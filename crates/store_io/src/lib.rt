@@ -1,8 +1,11 @@
 //! The outside: stores of files, sources of bytes and sinks for them, in memory and of the system.
 #![tactic(auto)]
 
+mod dir_list;
+mod dir_put;
 mod dir_store;
 mod failing;
+mod failure;
 mod fault;
 mod mem_sink;
 mod mem_source;
@@ -15,6 +18,7 @@ mod store;
 mod store_calls;
 
 pub use dir_store::DirStore;
+pub use failure::{Failure, LeftOut, LeftOutReason, Step};
 pub use fault::{Failed, ListFault, ReadFault, SinkFault};
 pub use mem_sink::MemSink;
 pub use mem_source::MemSource;

@@ -28,8 +28,8 @@ pub trait Store {
         ensures same { files self.new ≡ files self.old }
         ensures faults { faults self.new ≡ faults self.old };
 
-    /// The names of the files, in byte order. It changes nothing. It fails where the store does, or where
-    /// there is no memory.
+    /// The names of the files, in byte order. A store that doesn't tell its files may give them in any order, and more
+    /// than once. It changes nothing. It fails where the store does, or where there is no memory.
     fn list(&mut self) -> Result<Vec<FileName>, ListFault>
         ensures names { IfOk result (λ names. IfSome (files self.old) (λ told. (names.items ≡ names_of told) × IsInOrder told)) }
         ensures same { files self.new ≡ files self.old }
