@@ -11,6 +11,7 @@ use Rattle.ftn_tree.specs.declared.table.Role.TheVariants as role
 abbrev pub is_procedure_scope : ScopeKind → Bool
 is_procedure_scope scope.Program = false
 is_procedure_scope scope.Module = false
+is_procedure_scope scope.BlockData = false
 is_procedure_scope scope.Subroutine = true
 is_procedure_scope scope.Function = true
 is_procedure_scope scope.Body = false
@@ -19,6 +20,7 @@ is_procedure_scope scope.Body = false
 abbrev pub holds_executables : ScopeKind → Bool
 holds_executables scope.Program = true
 holds_executables scope.Module = false
+holds_executables scope.BlockData = false
 holds_executables scope.Subroutine = true
 holds_executables scope.Function = true
 holds_executables scope.Body = false
@@ -40,6 +42,7 @@ is_variable _ = false
 abbrev pub is_unit : EntityKind → Bool
 is_unit entity.Program = true
 is_unit entity.Module = true
+is_unit entity.BlockData = true
 is_unit entity.Subroutine = true
 is_unit entity.Function = true
 is_unit _ = false

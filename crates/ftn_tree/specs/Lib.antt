@@ -6,7 +6,6 @@ pub mod Reading
 pub mod Breaks
 pub mod Layers
 pub mod Expressions
-pub mod Classes
 pub mod Kinds
 pub mod Lexemes
 pub mod Operators

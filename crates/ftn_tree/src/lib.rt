@@ -1,7 +1,6 @@
 //! Tokens, trees and tables of Fortran 90 source text, and the definitions that readers of it meet.
 #![tactic(auto)]
 
-mod class;
 mod expr;
 mod form;
 mod lexeme;
@@ -14,7 +13,6 @@ mod token;
 mod unit;
 mod value;
 
-pub use class::Class;
 pub use expr::{Expr, Part};
 pub use form::Form;
 pub use lexeme::Lexeme;
@@ -22,9 +20,10 @@ pub use mark::{Content, Mark, Region, Section, Title};
 pub use operator::Operator;
 pub use parts::{
     AccessWord, ArrayDecl, Attribute, AttributeKind, BlockName, BoundPair, CaseRange, CharLength,
-    CommonGroup, CommonMember, Designator, DoControl, EndWord, Ending, EntityDecl, ImplicitType,
-    IntentMode, IoStyle, LeaveWord, LengthSelector, LengthValue, LetterGroup, LetterRange,
-    NamedConstant, OnlyItem, ProcedureWord, Rename, SaveItem, TypeSpec,
+    CommonGroup, CommonMember, DataConstant, DataGroup, DataValue, Designator, DoControl, EndWord,
+    Ending, EntityDecl, ImplicitType, IntentMode, IoStyle, LeaveWord, LengthSelector, LengthValue,
+    LetterGroup, LetterRange, NamedConstant, OnlyItem, ProcedureWord, Rename, Repeat, SaveItem,
+    Sign, TypeSpec,
 };
 pub use piece::{PieceKind, Spot};
 pub use table::{

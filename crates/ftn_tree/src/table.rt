@@ -13,6 +13,8 @@ pub enum ScopeKind {
     Program,
     /// A module.
     Module,
+    /// A block data program unit.
+    BlockData,
     /// A subroutine.
     Subroutine,
     /// A function.
@@ -55,7 +57,7 @@ pub struct StatementId {
 pub struct Scope {
     /// What it is.
     pub kind: ScopeKind,
-    /// Its folded name, with the host's path and `/` before it.
+    /// Its folded name, with the host's path and `/` before it. A BLOCK DATA without a name has `%blockdata`.
     pub path: Bytes,
     /// The number of its host (2.2.3): of the scoping unit around it, also for an interface body.
     pub host: Option<u32>,
@@ -74,6 +76,8 @@ pub enum EntityKind {
     Program,
     /// A module.
     Module,
+    /// A block data program unit.
+    BlockData,
     /// A subroutine.
     Subroutine,
     /// A function. Without RESULT its result is the same entity.
@@ -120,7 +124,11 @@ impl EntityKind {
     {
         matches!(
             self,
-            EntityKind::Program | EntityKind::Module | EntityKind::Subroutine | EntityKind::Function
+            EntityKind::Program
+                | EntityKind::Module
+                | EntityKind::BlockData
+                | EntityKind::Subroutine
+                | EntityKind::Function
         )
     }
 }
@@ -128,10 +136,10 @@ impl EntityKind {
 /// An entity. Those of a project are numbered from 0, by file and by the offset of their first tokens, blank common last.
 #[derive(Drop)]
 pub struct Entity {
-    /// Its folded name. Blank common alone has none.
+    /// Its folded name. Blank common and a BLOCK DATA without a name have none.
     pub name: Option<Name>,
-    /// The scoping unit that it belongs to. Main programs, modules, external procedures, common blocks and intrinsic functions
-    /// belong to none.
+    /// The scoping unit that it belongs to. Main programs, modules, block data program units, external procedures, common blocks
+    /// and intrinsic functions belong to none.
     pub home: Option<u32>,
     /// What it is.
     pub kind: EntityKind,
@@ -139,7 +147,7 @@ pub struct Entity {
     pub first: Span,
     /// Whether its type comes from its first letter alone (5.3).
     pub implicit: bool,
-    /// The scoping unit that it opens: that of a main program, a module or a procedure.
+    /// The scoping unit that it opens: that of a program unit or a procedure.
     pub opens: Option<u32>,
 }
 
