@@ -6,19 +6,33 @@ use Rattle.ftn_tree.specs.declared.parts.CaseRange.{CaseRange}
 use Rattle.ftn_tree.specs.declared.parts.Ending.{Ending}
 use Rattle.ftn_tree.specs.declared.parts.EndWord.{EndWord}
 use Rattle.ftn_tree.specs.declared.parts.EndWord.TheVariants as word
+use Rattle.ftn_tree.specs.declared.parts.ProcedureWord.{ProcedureWord}
+use Rattle.ftn_tree.specs.declared.parts.ProcedureWord.TheVariants.{External, Intrinsic}
 use Rattle.ftn_tree.specs.declared.mark.Title.{Title}
 use Rattle.ftn_tree.specs.declared.mark.Mark.{Mark}
 use Rattle.ftn_tree.specs.declared.mark.Mark.TheVariants as mark
 use Rattle.ftn_tree.specs.declared.mark.Content.{Content}
 use Rattle.ftn_tree.specs.declared.mark.Content.TheVariants as content
 use Rattle.ftn_tree.specs.Layers.{FormLayer}
-use Rattle.ftn_tree.specs.Classes.{action_of}
 
 abbrev pub title : EndWord → Option ℕ → Title
 title which name = record { word = which; name = name }
 
 abbrev pub opens : EndWord → Option ℕ → Mark
 opens which name = mark.Open (title which name)
+
+-- the statement that is carried out: the one inside an IF statement, and else the statement itself (8.1.2.4)
+abbrev pub action_at : Form → FormLayer → Form
+action_at form (Form-F.If condition at inner) = inner
+action_at form _ = form
+
+abbrev pub action_of : Form → Form
+action_of form = action_at form (out-Form form)
+
+-- a block data program unit may hold INTRINSIC and no EXTERNAL (11.4)
+abbrev pub procedure_mark : ProcedureWord → Mark
+procedure_mark External = mark.Specification
+procedure_mark Intrinsic = mark.Data
 
 -- CASE DEFAULT has no values
 abbrev pub case_mark : Option (List CaseRange) → Mark
@@ -33,19 +47,21 @@ abbrev pub mark_at : FormLayer → Mark
 mark_at (Form-F.UseAll name renames) = mark.Use
 mark_at (Form-F.UseOnly name items) = mark.Use
 mark_at (Form-F.Implicit groups) = mark.Implicit
-mark_at (Form-F.Declare ty attributes colons entities) = mark.Characteristic
-mark_at (Form-F.Dimension colons arrays) = mark.Characteristic
-mark_at (Form-F.Intent mode colons names) = mark.Characteristic
-mark_at (Form-F.Parameter constants) = mark.Specification
-mark_at (Form-F.Save colons items) = mark.Specification
+mark_at (Form-F.Declare ty attributes colons entities) = mark.Declaration
+mark_at (Form-F.Dimension colons arrays) = mark.Declaration
+mark_at (Form-F.Intent mode colons names) = mark.Intent
+mark_at (Form-F.Parameter constants) = mark.Data
+mark_at (Form-F.Data groups) = mark.Data
+mark_at (Form-F.Save colons items) = mark.Data
+mark_at (Form-F.Common groups) = mark.Data
+mark_at (Form-F.Equivalence sets) = mark.Data
 mark_at (Form-F.Access which colons names) = mark.Specification
-mark_at (Form-F.External which names) = mark.Specification
-mark_at (Form-F.Common groups) = mark.Specification
-mark_at (Form-F.Equivalence sets) = mark.Specification
+mark_at (Form-F.External which names) = procedure_mark which
 mark_at (Form-F.ModuleProcedure names) = mark.ModuleProcedure
 mark_at (Form-F.Interface name) = opens word.Interface name
 mark_at (Form-F.Program name) = opens word.Program (Some name)
 mark_at (Form-F.Module name) = opens word.Module (Some name)
+mark_at (Form-F.BlockData joined name) = opens (word.BlockData joined) name
 mark_at (Form-F.Subroutine name dummies) = opens word.Subroutine (Some name)
 mark_at (Form-F.Function ty name dummies answer) = opens word.Function (Some name)
 mark_at (Form-F.IfThen condition) = opens word.If None
@@ -82,6 +98,7 @@ word_number word.Interface = 4
 word_number word.If = 5
 word_number word.Do = 6
 word_number word.Select = 7
+word_number (word.BlockData joined) = 8
 
 abbrev pub same_word : EndWord → EndWord → Bool
 same_word one other = word_number one == word_number other
@@ -100,6 +117,7 @@ is_procedure _ = false
 abbrev pub is_unit : EndWord → Bool
 is_unit word.Program = true
 is_unit word.Module = true
+is_unit (word.BlockData joined) = true
 is_unit which = is_procedure which
 
 -- ---- statements of a part
@@ -125,11 +143,19 @@ is_implicit mark.Implicit = true
 is_implicit _ = false
 
 abbrev pub is_characteristic : Mark → Bool
-is_characteristic mark.Characteristic = true
+is_characteristic mark.Declaration = true
+is_characteristic mark.Intent = true
 is_characteristic _ = false
 
+abbrev pub is_data : Mark → Bool
+is_data mark.Declaration = true
+is_data mark.Data = true
+is_data _ = false
+
 abbrev pub is_specification : Mark → Bool
-is_specification mark.Characteristic = true
+is_specification mark.Declaration = true
+is_specification mark.Intent = true
+is_specification mark.Data = true
 is_specification mark.Specification = true
 is_specification (mark.Open what) = same_word what.word word.Interface
 is_specification _ = false
@@ -175,6 +201,7 @@ belongs content.Specific m = is_specific m
 belongs content.Use m = is_use m
 belongs content.Implicit m = is_implicit m
 belongs content.Characteristic m = is_characteristic m
+belongs content.Data m = is_data m
 belongs content.Specification m = is_specification m
 belongs content.Executable m = is_executable m
 belongs content.Contains m = is_contains m

@@ -77,3 +77,8 @@ commas phrase (a ∷ rest) at tokens = (phrase a · after_commas phrase rest) at
 abbrev pub commas_or_none : {A : Type 0} → (A → Phrase) → List A → Phrase
 commas_or_none phrase [] = nothing
 commas_or_none phrase (a ∷ rest) = commas phrase (a ∷ rest)
+
+-- one after another, as many as there are
+abbrev pub each : {A : Type 0} → (A → Phrase) → List A → Phrase
+each phrase [] = nothing
+each phrase (a ∷ rest) = phrase a · each phrase rest

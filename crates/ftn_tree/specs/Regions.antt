@@ -31,6 +31,7 @@ interface_named (Some name) = region.GenericInterface
 abbrev pub opened_by : Region → EndWord → Option ℕ → Region
 opened_by around word.Program name = region.MainProgram
 opened_by around word.Module name = region.Module
+opened_by around (word.BlockData joined) name = region.BlockData
 opened_by around word.Subroutine name = procedure_in around
 opened_by around word.Function name = procedure_in around
 opened_by around word.Interface name = interface_named name
@@ -68,11 +69,12 @@ abbrev pub in_loop : (ℕ → ℕ → Bool) → Option ℕ → List Title → Bo
 in_loop same name [] = false
 in_loop same name (what ∷ path) = same_word what.word word.Do && fits_name same name what.name || is_construct what.word && in_loop same name path
 
--- an END alone ends a main program, a module, an external procedure and an interface body (11.1, 11.3, 12.5.2); a module or internal
--- procedure wants its word, and so do interface blocks and constructs
+-- an END alone ends a program unit and an interface body (11.1, 11.3, 11.4, 12.5.2); a module or internal procedure wants its word, and
+-- so do interface blocks and constructs
 abbrev pub ends_plainly : Region → Bool
 ends_plainly region.MainProgram = true
 ends_plainly region.Module = true
+ends_plainly region.BlockData = true
 ends_plainly region.ExternalProcedure = true
 ends_plainly region.Body = true
 ends_plainly _ = false
@@ -102,6 +104,7 @@ abbrev pub sections_in : Region → List Section
 sections_in region.File = section.Any content.Unit ∷ []
 sections_in region.MainProgram = scope_sections
 sections_in region.Module = specification_part procedure_part
+sections_in region.BlockData = section.Any content.Use ∷ section.Any content.Implicit ∷ section.Any content.Data ∷ []
 sections_in region.ExternalProcedure = scope_sections
 sections_in region.ModuleProcedure = scope_sections
 sections_in region.InternalProcedure = specification_part (section.Any content.Executable ∷ [])

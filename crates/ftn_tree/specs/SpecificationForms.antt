@@ -1,5 +1,5 @@
 -- How specification statements are written (Fortran 90, 5.1, 5.2, 5.5, 12.3.2).
-use Rattle.std.specs.Prelude.{ℕ, ◌-◌, nat_le, Bool, true, false, not, ◌&&◌, ◌||◌, is_some, is_none, take, List, [], ◌∷◌, length, codes, Option, Some, None}
+use Rattle.std.specs.Prelude.{◌≡◌, ℕ, ◌-◌, nat_le, Bool, true, false, not, ◌&&◌, ◌||◌, is_some, is_none, take, List, [], ◌∷◌, length, codes, Option, Some, None}
 use Rattle.std.specs.List.{list_all}
 use Rattle.ftn_tree.specs.declared.expr.Expr.{Expr}
 use Rattle.ftn_tree.specs.declared.form.Form.TheOpen.{Form-F}
@@ -25,11 +25,21 @@ use Rattle.ftn_tree.specs.declared.parts.BlockName.TheVariants.{Unwritten, Blank
 use Rattle.ftn_tree.specs.declared.parts.CommonGroup.{CommonGroup}
 use Rattle.ftn_tree.specs.declared.parts.CommonMember.{CommonMember}
 use Rattle.ftn_tree.specs.declared.parts.Designator.{Designator}
+use Rattle.ftn_tree.specs.declared.parts.Repeat.{Repeat}
+use Rattle.ftn_tree.specs.declared.parts.Repeat.TheVariants as repeats
+use Rattle.ftn_tree.specs.declared.parts.Sign.{Sign}
+use Rattle.ftn_tree.specs.declared.parts.Sign.TheVariants.{Plus, Minus}
+use Rattle.ftn_tree.specs.declared.parts.DataConstant.{DataConstant}
+use Rattle.ftn_tree.specs.declared.parts.DataConstant.TheVariants as given
+use Rattle.ftn_tree.specs.declared.parts.DataValue.{DataValue}
+use Rattle.ftn_tree.specs.declared.parts.DataGroup.{DataGroup}
+use Rattle.ftn_tree.specs.declared.lexeme.Lexeme.{Lexeme}
 use Rattle.ftn_tree.specs.declared.lexeme.Lexeme.TheVariants as lexeme
-use Rattle.ftn_tree.specs.Phrases.{Phrase, nothing, ◌·◌, word, word_at, mark, mark_at, name, maybe, whether, never, provided, in_parens, commas, after_commas}
-use Rattle.ftn_tree.specs.Grammar.{expr}
+use Rattle.ftn_tree.specs.Lexemes.{lexeme_of}
+use Rattle.ftn_tree.specs.Phrases.{Phrase, nothing, ◌·◌, token, word, word_at, mark, mark_at, name, maybe, whether, never, provided, in_parens, commas, after_commas, each}
+use Rattle.ftn_tree.specs.Grammar.{truth_lexeme, expr}
 use Rattle.ftn_tree.specs.Layers.{FormLayer}
-use Rattle.ftn_tree.specs.TypeForms.{type_text, char_length}
+use Rattle.ftn_tree.specs.TypeForms.{type_text, whole_number, char_length}
 
 -- ---- bounds (5.1.2.4)
 
@@ -166,6 +176,40 @@ designator d = name d.name · maybe (λ subscripts. in_parens (commas expr subsc
 abbrev pub equivalence_set : List Designator → Phrase
 equivalence_set designators = provided (nat_le 2 (length designators)) (in_parens (commas designator designators))
 
+-- ---- DATA (5.2.9)
+
+abbrev pub repeat : Repeat → Phrase
+repeat (repeats.Whole number value) = whole_number number value
+repeat (repeats.Named number) = name number
+
+abbrev pub sign_lexeme : Sign → Lexeme
+sign_lexeme Plus = lexeme.Plus
+sign_lexeme Minus = lexeme.Minus
+
+abbrev pub sign : Sign → Phrase
+sign which = mark (sign_lexeme which)
+
+-- a whole number with or without a sign, a logical constant, a character constant or a name
+abbrev pub data_constant : DataConstant → Phrase
+data_constant (given.Whole signed number value) = maybe sign signed · whole_number number value
+data_constant (given.Truth number value) = mark_at number (truth_lexeme value)
+data_constant (given.Quoted number value) = token (λ at here. (number ≡ at) × (lexeme_of here ≡ lexeme.Quoted) × (value ≡ here.value))
+data_constant (given.Named number) = name number
+
+-- `[repeat *] constant`
+abbrev pub data_value : DataValue → Phrase
+data_value v = maybe (λ often. repeat often · mark lexeme.Times) v.repeat · data_constant v.constant
+
+-- `object, .. / value, .. /`
+abbrev pub data_group : DataGroup → Phrase
+data_group g =
+    whether g.comma (mark lexeme.Comma) · commas designator g.objects · mark lexeme.Divide · commas data_value g.values · mark lexeme.Divide
+
+-- a comma stands before later groups alone
+abbrev pub data_groups : List DataGroup → Phrase
+data_groups [] = never
+data_groups (g ∷ rest) = provided (not g.comma) (data_group g) · each data_group rest
+
 -- ---- the statements
 
 abbrev pub declaration_at : FormLayer → Phrase
@@ -174,6 +218,7 @@ declaration_at (Form-F.Declare ty attributes colons entities) =
     (type_text ty · after_commas attribute attributes · whether colons (mark lexeme.Colons) · commas entity entities)
 declaration_at (Form-F.Dimension colons arrays) = word (codes "dimension") · whether colons (mark lexeme.Colons) · commas array arrays
 declaration_at (Form-F.Parameter constants) = word (codes "parameter") · in_parens (commas constant constants)
+declaration_at (Form-F.Data all) = word (codes "data") · data_groups all
 declaration_at (Form-F.Save colons items) = word (codes "save") · items_or_none save_item colons items
 declaration_at (Form-F.Access access colons names) = word (access_word access) · items_or_none name colons names
 declaration_at (Form-F.External procedure names) = word (procedure_word procedure) · commas name names

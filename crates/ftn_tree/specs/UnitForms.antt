@@ -1,6 +1,6 @@
 -- The text of the statements that begin and end program units, procedures and interface blocks, of USE and of IMPLICIT
 -- (Fortran 90, 5.3, 11, 12.3.2.1, 12.5.2).
-use Rattle.std.specs.Prelude.{◌≡◌, ◌≤◌, ℕ, Bool, true, false, List, [], ◌∷◌, ◌++◌, length, codes, Option, Some, None}
+use Rattle.std.specs.Prelude.{◌≡◌, ◌≤◌, ℕ, Bool, true, false, not, List, [], ◌∷◌, ◌++◌, length, codes, Option, Some, None}
 use Rattle.ftn_tree.specs.declared.expr.Expr.{out-Expr}
 use Rattle.ftn_tree.specs.declared.expr.Expr.TheOpen.{Expr-F}
 use Rattle.ftn_tree.specs.declared.form.Form.TheOpen.{Form-F}
@@ -24,15 +24,18 @@ use Rattle.ftn_tree.specs.declared.parts.LetterGroup.{LetterGroup}
 use Rattle.ftn_tree.specs.declared.parts.LetterRange.{LetterRange}
 use Rattle.ftn_tree.specs.Layers.{ExprLayer, FormLayer}
 use Rattle.ftn_tree.specs.Lexemes.{lexeme_of}
-use Rattle.ftn_tree.specs.Phrases.{Phrase, ◌·◌, token, word, mark, name, provided, maybe, in_parens, commas, commas_or_none, after_commas}
+use Rattle.ftn_tree.specs.Phrases.{Phrase, ◌·◌, token, word, mark, name, whether, provided, maybe, in_parens, commas, commas_or_none, after_commas}
 use Rattle.ftn_tree.specs.TypeForms.{type_text}
 use Rattle.ftn_tree.specs.SpecificationForms.{declaration_at}
 
 -- ---- END
 
+-- the word after END, or the first of two
 abbrev pub end_text : EndWord → List ℕ
 end_text ends.Program = codes "program"
 end_text ends.Module = codes "module"
+end_text (ends.BlockData true) = codes "blockdata"
+end_text (ends.BlockData false) = codes "block"
 end_text ends.Subroutine = codes "subroutine"
 end_text ends.Function = codes "function"
 end_text ends.Interface = codes "interface"
@@ -40,14 +43,29 @@ end_text ends.If = codes "if"
 end_text ends.Do = codes "do"
 end_text ends.Select = codes "select"
 
--- END and the word, which may be one word
+-- BLOCK DATA is written as two words
+abbrev pub is_parted : EndWord → Bool
+is_parted (ends.BlockData joined) = not joined
+is_parted _ = false
+
+-- END and the first word, which may be one word
+abbrev pub end_first : Bool → EndWord → Phrase
+end_first true which = word (codes "end" ++ end_text which)
+end_first false which = word (codes "end") · word (end_text which)
+
 abbrev pub end_words : Bool → EndWord → Phrase
-end_words true which = word (codes "end" ++ end_text which)
-end_words false which = word (codes "end") · word (end_text which)
+end_words joined which = end_first joined which · whether (is_parted which) (word (codes "data"))
 
 abbrev pub end_of : Option Ending → Phrase
 end_of None = word (codes "end")
 end_of (Some ending) = end_words ending.joined ending.word · maybe name ending.name
+
+-- ---- BLOCK DATA
+
+-- the two words may be one
+abbrev pub block_data : Bool → Phrase
+block_data true = word (codes "blockdata")
+block_data false = word (codes "block") · word (codes "data")
 
 -- ---- USE
 
@@ -109,6 +127,7 @@ implicit_of (Some groups) = commas letter_group groups
 -- ---- the statements
 
 abbrev pub unit_form_at : FormLayer → Phrase
+unit_form_at (Form-F.BlockData joined n) = block_data joined · maybe name n
 unit_form_at (Form-F.Program n) = word (codes "program") · name n
 unit_form_at (Form-F.ModuleProcedure names) = word (codes "module") · word (codes "procedure") · commas name names
 unit_form_at (Form-F.Module n) = word (codes "module") · name n

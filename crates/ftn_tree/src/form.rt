@@ -2,9 +2,9 @@
 
 use crate::expr::Expr;
 use crate::parts::{
-    AccessWord, ArrayDecl, Attribute, BoundPair, CaseRange, CommonGroup, Designator, DoControl,
-    Ending, EntityDecl, IntentMode, IoStyle, LeaveWord, LetterGroup, NamedConstant, OnlyItem,
-    ProcedureWord, Rename, SaveItem, TypeSpec,
+    AccessWord, ArrayDecl, Attribute, BoundPair, CaseRange, CommonGroup, DataGroup, Designator,
+    DoControl, Ending, EntityDecl, IntentMode, IoStyle, LeaveWord, LetterGroup, NamedConstant,
+    OnlyItem, ProcedureWord, Rename, SaveItem, TypeSpec,
 };
 use sqlite_items::{Boxed, Items};
 
@@ -18,6 +18,13 @@ pub enum Form {
         target: Expr,
         /// The right side.
         value: Expr,
+    },
+    /// `BLOCK DATA [name]` (11.4).
+    BlockData {
+        /// Whether BLOCK and DATA are written as one word.
+        joined: bool,
+        /// The name.
+        name: Option<u32>,
     },
     /// `PROGRAM name` (11.1).
     Program {
@@ -54,7 +61,7 @@ pub enum Form {
     },
     /// `CONTAINS` (12.5.2.6).
     Contains,
-    /// `END [word [name]]` (11.1, 11.3, 12.3.2.1, 12.5.2, 8.1).
+    /// `END [word [name]]` (11.1, 11.3, 11.4, 12.3.2.1, 12.5.2, 8.1).
     End {
         /// What stands after END.
         of: Option<Ending>,
@@ -105,6 +112,11 @@ pub enum Form {
     Parameter {
         /// The constants, one at least.
         constants: Items<NamedConstant>,
+    },
+    /// `DATA object, .. / value, .. / [[,] object, .. / value, .. /] ..` (5.2.9).
+    Data {
+        /// The groups, one at least.
+        groups: Items<DataGroup>,
     },
     /// `SAVE [[::] item, ..]` (5.2.4).
     Save {

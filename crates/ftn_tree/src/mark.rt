@@ -4,7 +4,7 @@ ghost use Rattle.std.specs.Prelude.{◌≡◌};
 ghost use Rattle.ftn_tree.specs.Marks as spec;
 
 use crate::form::Form;
-use crate::parts::EndWord;
+use crate::parts::{EndWord, ProcedureWord};
 
 /// The word of an END and a name: of the END itself, or of a statement that opens what this END ends.
 #[derive(Clone, Copy)]
@@ -22,9 +22,13 @@ pub enum Mark {
     Use,
     /// IMPLICIT (5.3).
     Implicit,
-    /// A type declaration, DIMENSION or INTENT, which say characteristics of arguments (12.2.1).
-    Characteristic,
-    /// Another specification statement.
+    /// A type declaration or DIMENSION.
+    Declaration,
+    /// INTENT (5.2.1).
+    Intent,
+    /// PARAMETER, DATA, SAVE, COMMON, EQUIVALENCE or INTRINSIC, which a block data program unit may hold, too (11.4).
+    Data,
+    /// PUBLIC, PRIVATE or EXTERNAL.
     Specification,
     /// MODULE PROCEDURE (12.3.2.1).
     ModuleProcedure,
@@ -61,6 +65,8 @@ pub enum Region {
     MainProgram,
     /// A module (11.3).
     Module,
+    /// A block data program unit (11.4).
+    BlockData,
     /// A procedure that is a program unit (2.2.3.1).
     ExternalProcedure,
     /// A procedure in a module (2.2.3.2).
@@ -94,8 +100,11 @@ pub enum Content {
     Use,
     /// IMPLICIT statements.
     Implicit,
-    /// Type declarations, DIMENSION and INTENT.
+    /// Type declarations, DIMENSION and INTENT, which say characteristics of arguments (12.2.1).
     Characteristic,
+    /// The specification statements but USE and IMPLICIT that a block data program unit may hold: type declarations, DIMENSION,
+    /// PARAMETER, DATA, SAVE, COMMON, EQUIVALENCE and INTRINSIC (11.4).
+    Data,
     /// All specification statements but USE and IMPLICIT, and interface blocks.
     Specification,
     /// Executable statements and constructs.
@@ -133,19 +142,20 @@ impl Form {
         match self.action() {
             Form::UseAll { .. } | Form::UseOnly { .. } => Mark::Use,
             Form::Implicit { .. } => Mark::Implicit,
-            Form::Declare { .. } | Form::Dimension { .. } | Form::Intent { .. } => {
-                Mark::Characteristic
-            }
+            Form::Declare { .. } | Form::Dimension { .. } => Mark::Declaration,
+            Form::Intent { .. } => Mark::Intent,
             Form::Parameter { .. }
+            | Form::Data { .. }
             | Form::Save { .. }
-            | Form::Access { .. }
-            | Form::External { .. }
             | Form::Common { .. }
-            | Form::Equivalence { .. } => Mark::Specification,
+            | Form::Equivalence { .. } => Mark::Data,
+            Form::Access { .. } => Mark::Specification,
+            Form::External { word, .. } => procedures(*word),
             Form::ModuleProcedure { .. } => Mark::ModuleProcedure,
             Form::Interface { name } => open(EndWord::Interface, *name),
             Form::Program { name } => open(EndWord::Program, Some(*name)),
             Form::Module { name } => open(EndWord::Module, Some(*name)),
+            Form::BlockData { joined, name } => open(EndWord::BlockData { joined: *joined }, *name),
             Form::Subroutine { name, .. } => open(EndWord::Subroutine, Some(*name)),
             Form::Function { name, .. } => open(EndWord::Function, Some(*name)),
             Form::IfThen { .. } => open(EndWord::If, None),
@@ -171,6 +181,25 @@ impl Form {
                 name: ending.name,
             }),
         }
+    }
+
+    /// The statement that is carried out where this one is: the one inside an IF statement, and else itself (8.1.2.4).
+    pub fn action(&self) -> &Form
+        ensures { result.now ≡ spec.action_of self.now }
+    {
+        match self {
+            Form::If { inner, .. } => inner.get(),
+            _ => self,
+        }
+    }
+}
+
+fn procedures(word: ProcedureWord) -> Mark
+    ensures { result ≡ spec.procedure_mark word }
+{
+    match word {
+        ProcedureWord::External => Mark::Specification,
+        ProcedureWord::Intrinsic => Mark::Data,
     }
 }
 

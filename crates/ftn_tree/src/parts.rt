@@ -1,6 +1,7 @@
 //! Parts of statement forms.
 
 use crate::expr::Expr;
+use ftn_base::Bytes;
 use sqlite_items::Items;
 
 /// The type that a declaration or a FUNCTION statement writes (Fortran 90, 5.1.1).
@@ -244,13 +245,86 @@ pub struct CommonMember {
     pub bounds: Option<Items<BoundPair>>,
 }
 
-/// A variable or an array element in EQUIVALENCE (5.5.1).
+/// A variable or an array element in EQUIVALENCE or DATA (5.5.1, 5.2.9).
 #[derive(Drop)]
 pub struct Designator {
     /// The name.
     pub name: u32,
     /// The subscripts in their parentheses.
     pub subscripts: Option<Items<Expr>>,
+}
+
+/// How often a value of DATA is given (5.2.9).
+#[derive(Clone, Copy)]
+pub enum Repeat {
+    /// As often as a whole number says.
+    Whole {
+        /// Its token.
+        token: u32,
+        /// What it stands for.
+        value: i32,
+    },
+    /// As often as a named constant says.
+    Named(u32),
+}
+
+/// The sign before a number of DATA (5.2.9).
+#[derive(Clone, Copy)]
+pub enum Sign {
+    /// `+`.
+    Plus,
+    /// `-`.
+    Minus,
+}
+
+/// A constant of DATA (5.2.9).
+#[derive(Drop)]
+pub enum DataConstant {
+    /// A whole number, with a sign before it if one is written.
+    Whole {
+        /// The sign, whose token is the one before the number's.
+        sign: Option<Sign>,
+        /// The number's token.
+        token: u32,
+        /// What it stands for without its sign.
+        value: i32,
+    },
+    /// `.TRUE.` or `.FALSE.`.
+    Truth {
+        /// Its token.
+        token: u32,
+        /// What it stands for.
+        value: bool,
+    },
+    /// A character constant.
+    Quoted {
+        /// Its token.
+        token: u32,
+        /// The bytes that it stands for.
+        value: Bytes,
+    },
+    /// The name of a constant.
+    Named(u32),
+}
+
+/// A value of DATA, `[repeat *] constant` (5.2.9).
+#[derive(Drop)]
+pub struct DataValue {
+    /// How often it is given, if that is written; else once.
+    pub repeat: Option<Repeat>,
+    /// The constant.
+    pub constant: DataConstant,
+}
+
+/// Objects of DATA and the values that they get (5.2.9).
+#[derive(Drop)]
+pub struct DataGroup {
+    /// Whether a comma stands before it, which it may from the second group on.
+    pub comma: bool,
+    /// The objects, one at least.
+    pub objects: Items<Designator>,
+    /// The values between the slashes, one at least.
+    pub values: Items<DataValue>,
 }
 
 /// What END ends (2.3.3, 8.1).
@@ -260,6 +334,11 @@ pub enum EndWord {
     Program,
     /// `MODULE`.
     Module,
+    /// `BLOCK DATA`.
+    BlockData {
+        /// Whether it is one word.
+        joined: bool,
+    },
     /// `SUBROUTINE`.
     Subroutine,
     /// `FUNCTION`.
@@ -279,7 +358,7 @@ pub enum EndWord {
 pub struct Ending {
     /// The word.
     pub word: EndWord,
-    /// Whether END and the word are written as one word.
+    /// Whether END and the word, or the first of its two words, are written as one word.
     pub joined: bool,
     /// The name after it.
     pub name: Option<u32>,

@@ -3,6 +3,7 @@
 ghost use Rattle.std.specs.Prelude.{◌≡◌};
 ghost use Rattle.ftn_tree.specs.Kinds as spec;
 
+use crate::mention::Role;
 use ftn_base::{Bytes, EntityId, Letter, Name, Span};
 use sqlite_items::Items;
 
@@ -13,6 +14,8 @@ pub enum ScopeKind {
     Program,
     /// A module.
     Module,
+    /// A block data program unit.
+    BlockData,
     /// A subroutine.
     Subroutine,
     /// A function.
@@ -55,7 +58,7 @@ pub struct StatementId {
 pub struct Scope {
     /// What it is.
     pub kind: ScopeKind,
-    /// Its folded name, with the host's path and `/` before it.
+    /// Its folded name, with the host's path and `/` before it. A BLOCK DATA without a name has `%blockdata`.
     pub path: Bytes,
     /// The number of its host (2.2.3): of the scoping unit around it, also for an interface body.
     pub host: Option<u32>,
@@ -74,6 +77,8 @@ pub enum EntityKind {
     Program,
     /// A module.
     Module,
+    /// A block data program unit.
+    BlockData,
     /// A subroutine.
     Subroutine,
     /// A function. Without RESULT its result is the same entity.
@@ -120,7 +125,11 @@ impl EntityKind {
     {
         matches!(
             self,
-            EntityKind::Program | EntityKind::Module | EntityKind::Subroutine | EntityKind::Function
+            EntityKind::Program
+                | EntityKind::Module
+                | EntityKind::BlockData
+                | EntityKind::Subroutine
+                | EntityKind::Function
         )
     }
 }
@@ -128,10 +137,10 @@ impl EntityKind {
 /// An entity. Those of a project are numbered from 0, by file and by the offset of their first tokens, blank common last.
 #[derive(Drop)]
 pub struct Entity {
-    /// Its folded name. Blank common alone has none.
+    /// Its folded name. Blank common and a BLOCK DATA without a name have none.
     pub name: Option<Name>,
-    /// The scoping unit that it belongs to. Main programs, modules, external procedures, common blocks and intrinsic functions
-    /// belong to none.
+    /// The scoping unit that it belongs to. Main programs, modules, block data program units, external procedures, common blocks
+    /// and intrinsic functions belong to none.
     pub home: Option<u32>,
     /// What it is.
     pub kind: EntityKind,
@@ -139,111 +148,8 @@ pub struct Entity {
     pub first: Span,
     /// Whether its type comes from its first letter alone (5.3).
     pub implicit: bool,
-    /// The scoping unit that it opens: that of a main program, a module or a procedure.
+    /// The scoping unit that it opens: that of a program unit or a procedure.
     pub opens: Option<u32>,
-}
-
-/// Where in its statement a name stands, which tells how it is used there.
-#[derive(Clone, Copy)]
-pub enum Role {
-    /// After PROGRAM, MODULE, SUBROUTINE or FUNCTION.
-    Opens,
-    /// After END and its word.
-    Ends,
-    /// After EXIT or CYCLE.
-    Leaves,
-    /// Before DO.
-    Label,
-    /// Between slashes in COMMON or SAVE.
-    Slash,
-    /// After USE.
-    Module,
-    /// The name that an item of USE has in the module, also where it is the item's only name.
-    Source,
-    /// The name that an item of USE gives before `=>`.
-    Local,
-    /// In the list of dummy arguments.
-    Dummy,
-    /// After RESULT.
-    Answer,
-    /// An entity of a type declaration.
-    Declared,
-    /// In DIMENSION.
-    Dimensioned,
-    /// Before `=` in PARAMETER.
-    Constant,
-    /// In SAVE, not between slashes.
-    Saved,
-    /// In PUBLIC or PRIVATE.
-    Accessed,
-    /// In EXTERNAL.
-    External,
-    /// In INTRINSIC.
-    Intrinsic,
-    /// In INTENT.
-    Intended,
-    /// A member in COMMON.
-    Member,
-    /// In EQUIVALENCE.
-    Tied,
-    /// After INTERFACE.
-    Generic,
-    /// In MODULE PROCEDURE.
-    Specific,
-    /// After CALL.
-    Called,
-    /// In an expression, a target or an input item, with subscripts or arguments in parentheses.
-    Parenthesised,
-    /// In an expression, a target or an input item without these, or as a DO variable.
-    Plain,
-}
-
-impl Role {
-    /// Whether the place alone tells what the name denotes: it is the name of a unit that is opened or ended, of a construct or of a
-    /// common block, or it stands in USE. Such a name makes no implicit entity.
-    pub fn is_special(self) -> bool
-        ensures { result ≡ spec.is_special self }
-    {
-        matches!(
-            self,
-            Role::Opens
-                | Role::Ends
-                | Role::Leaves
-                | Role::Label
-                | Role::Slash
-                | Role::Module
-                | Role::Source
-                | Role::Local
-        )
-    }
-
-    /// Whether the name stands there as one that a specification declares (5): in a type declaration, DIMENSION, PARAMETER, SAVE,
-    /// EXTERNAL, INTRINSIC, INTENT, COMMON or EQUIVALENCE.
-    pub fn is_declaration(self) -> bool
-        ensures { result ≡ spec.is_declaration self }
-    {
-        matches!(
-            self,
-            Role::Declared
-                | Role::Dimensioned
-                | Role::Constant
-                | Role::Saved
-                | Role::External
-                | Role::Intrinsic
-                | Role::Intended
-                | Role::Member
-                | Role::Tied
-        )
-    }
-}
-
-/// A name in a statement.
-#[derive(Clone, Copy)]
-pub struct Mention {
-    /// Its token.
-    pub token: u32,
-    /// Where in the statement it stands.
-    pub role: Role,
 }
 
 /// A name token. Those of a project are numbered from 0, by file and by offset.
