@@ -5,9 +5,10 @@ use Rattle.ftn_tree.specs.declared.expr.Expr.{Expr, out-Expr, fold-Expr}
 use Rattle.ftn_tree.specs.declared.expr.Part.{Part, fold-Part}
 use Rattle.ftn_tree.specs.declared.expr.Expr.TheOpen.{Expr-F, Part-F}
 use Rattle.ftn_tree.specs.Layers.{ExprLayer}
-use Rattle.ftn_tree.specs.declared.table.Mention.{Mention}
-use Rattle.ftn_tree.specs.declared.table.Role.{Role}
-use Rattle.ftn_tree.specs.declared.table.Role.TheVariants.{Plain, Parenthesised}
+use Rattle.ftn_tree.specs.declared.mention.Mention.{Mention}
+use Rattle.ftn_tree.specs.declared.mention.Role.{Role}
+use Rattle.ftn_tree.specs.declared.mention.Role.TheVariants.{Plain, Ranged, Parenthesised}
+use Rattle.ftn_tree.specs.Roles.{mention}
 
 -- the first token: of two operands that of the left one
 abbrev pub first_step : Expr-F ℕ (Unit {0}) → ℕ
@@ -30,13 +31,11 @@ is_reference_at _ = false
 abbrev pub is_reference : Expr → Bool
 is_reference expr = is_reference_at (out-Expr expr)
 
--- a name, and whether a list in parentheses follows it
-abbrev pub role_with : {A : Type 0} → Option A → Role
-role_with None = Plain
-role_with (Some args) = Parenthesised
-
-abbrev pub mention : ℕ → Role → Mention
-mention token role = record { token = token; role = role }
+-- a name by what follows it in parentheses
+abbrev pub role_with : {A B : Type 0} → Option A → Option B → Role
+role_with (Some args) part = Parenthesised
+role_with None (Some part) = Ranged
+role_with None None = Plain
 
 abbrev pub none_or_these : Option (List Mention) → List Mention
 none_or_these None = []
@@ -54,7 +53,7 @@ mentions_step (Expr-F.Quoted token value) = []
 mentions_step (Expr-F.Paren token inner) = inner
 mentions_step (Expr-F.Unary op operator arg) = arg
 mentions_step (Expr-F.Binary op operator left right) = left ++ right
-mentions_step (Expr-F.Refer name args part) = mention name (role_with args) ∷ (none_or_all args ++ none_or_these part)
+mentions_step (Expr-F.Refer name args part) = mention name (role_with args part) ∷ (none_or_all args ++ none_or_these part)
 
 abbrev pub part_mentions_step : Part-F (List Mention) (List Mention) → List Mention
 part_mentions_step part = none_or_these part.low ++ none_or_these part.high

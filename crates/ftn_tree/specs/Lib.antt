@@ -5,7 +5,10 @@ pub mod Logical
 pub mod Reading
 pub mod Breaks
 pub mod Layers
+pub mod Roles
 pub mod Expressions
+pub mod PartMentions
+pub mod Mentions
 pub mod Kinds
 pub mod Lexemes
 pub mod Operators

@@ -3,10 +3,11 @@
 ghost use Rattle.std.specs.Prelude.{◌≡◌, ◌++◌, OnOk};
 ghost use Rattle.ftn_tree.specs.Expressions as spec;
 
+use crate::mention::{Mention, Role};
 use crate::operator::Operator;
-use crate::table::{Mention, Role};
 use ftn_base::{Bytes, NoMemory};
 use sqlite_items::{Boxed, Items};
+use std::alloc::Global;
 
 /// An expression as it is written (7.1.1). Each `u32` is the number of a token in the file, from 0.
 #[cycle(expr)]
@@ -109,73 +110,83 @@ impl Expr {
     }
 
     /// Adds the names in the expression, in their order, each with its role: [`Role::Parenthesised`] where subscripts or arguments
-    /// follow it in parentheses, and else [`Role::Plain`].
+    /// follow it in parentheses, [`Role::Ranged`] where a substring range follows it alone, and else [`Role::Plain`].
     #[cycle(mentions)]
-    pub fn push_mentions(&self, mentions: &mut Vec<Mention>) -> Result<(), NoMemory>
+    pub fn push_mentions(&self, alloc: Global, mentions: &mut Vec<Mention>) -> Result<(), NoMemory>
         ensures { OnOk result (mentions.new.items ≡ mentions.old.items ++ spec.mentions_in self.now) }
     {
         match self {
             Expr::Whole { .. } | Expr::Truth { .. } | Expr::Quoted { .. } => {}
-            Expr::Paren { inner, .. } => inner.get().push_mentions(mentions)?,
-            Expr::Unary { arg, .. } => arg.get().push_mentions(mentions)?,
+            Expr::Paren { inner, .. } => inner.get().push_mentions(alloc, mentions)?,
+            Expr::Unary { arg, .. } => arg.get().push_mentions(alloc, mentions)?,
             Expr::Binary { left, right, .. } => {
-                left.get().push_mentions(mentions)?;
-                right.get().push_mentions(mentions)?;
+                left.get().push_mentions(alloc, mentions)?;
+                right.get().push_mentions(alloc, mentions)?;
             }
             Expr::Refer { name, args, part } => {
-                mentions.push(Mention {
-                    token: *name,
-                    role: role_with(args),
-                })?;
-                push_in_args(args, mentions)?;
-                push_in_part(part, mentions)?;
+                mentions.push(Mention::new(alloc, *name, role_with(args, part)))?;
+                push_in_args(alloc, args, mentions)?;
+                push_in_part(alloc, part, mentions)?;
             }
         }
         Ok(())
     }
 }
 
-fn role_with(args: &Option<Items<Expr>>) -> Role
-    ensures { result ≡ spec.role_with args.now }
+fn role_with(args: &Option<Items<Expr>>, part: &Option<Boxed<Part>>) -> Role
+    ensures { result ≡ spec.role_with args.now part.now }
 {
-    match args {
-        Some(_) => Role::Parenthesised,
-        None => Role::Plain,
+    match (args, part) {
+        (Some(_), _) => Role::Parenthesised,
+        (None, Some(_)) => Role::Ranged,
+        (None, None) => Role::Plain,
     }
 }
 
 #[cycle(mentions)]
-fn push_in_args(args: &Option<Items<Expr>>, mentions: &mut Vec<Mention>) -> Result<(), NoMemory>
+fn push_in_args(
+    alloc: Global,
+    args: &Option<Items<Expr>>,
+    mentions: &mut Vec<Mention>,
+) -> Result<(), NoMemory>
     ensures { OnOk result (mentions.new.items ≡ mentions.old.items ++ spec.mentions_in_args args.now) }
 {
     if let Some(args) = args {
         for arg in args.as_slice() {
-            arg.push_mentions(mentions)?;
+            arg.push_mentions(alloc, mentions)?;
         }
     }
     Ok(())
 }
 
 #[cycle(mentions)]
-fn push_in_part(part: &Option<Boxed<Part>>, mentions: &mut Vec<Mention>) -> Result<(), NoMemory>
+fn push_in_part(
+    alloc: Global,
+    part: &Option<Boxed<Part>>,
+    mentions: &mut Vec<Mention>,
+) -> Result<(), NoMemory>
     ensures { OnOk result (mentions.new.items ≡ mentions.old.items ++ spec.mentions_in_part part.now) }
 {
     match part {
         Some(part) => {
             let part = part.get();
-            push_in_bound(&part.low, mentions)?;
-            push_in_bound(&part.high, mentions)
+            push_in_bound(alloc, &part.low, mentions)?;
+            push_in_bound(alloc, &part.high, mentions)
         }
         None => Ok(()),
     }
 }
 
 #[cycle(mentions)]
-fn push_in_bound(bound: &Option<Expr>, mentions: &mut Vec<Mention>) -> Result<(), NoMemory>
+fn push_in_bound(
+    alloc: Global,
+    bound: &Option<Expr>,
+    mentions: &mut Vec<Mention>,
+) -> Result<(), NoMemory>
     ensures { OnOk result (mentions.new.items ≡ mentions.old.items ++ spec.mentions_in_bound bound.now) }
 {
     match bound {
-        Some(bound) => bound.push_mentions(mentions),
+        Some(bound) => bound.push_mentions(alloc, mentions),
         None => Ok(()),
     }
 }

@@ -3,8 +3,11 @@
 
 mod expr;
 mod form;
+mod laws;
 mod lexeme;
 mod mark;
+mod mention;
+mod mentions;
 mod operator;
 mod parts;
 mod piece;
@@ -15,8 +18,10 @@ mod value;
 
 pub use expr::{Expr, Part};
 pub use form::Form;
+pub use laws::operators_are_those_of_tokens;
 pub use lexeme::Lexeme;
 pub use mark::{Content, Mark, Region, Section, Title};
+pub use mention::{Mention, Role};
 pub use operator::Operator;
 pub use parts::{
     AccessWord, ArrayDecl, Attribute, AttributeKind, BlockName, BoundPair, CaseRange, CharLength,
@@ -26,9 +31,7 @@ pub use parts::{
     Sign, TypeSpec,
 };
 pub use piece::{PieceKind, Spot};
-pub use table::{
-    Bound, Entity, EntityKind, Mention, Occurrence, Role, Scope, ScopeKind, StatementId, Tables,
-};
+pub use table::{Bound, Entity, EntityKind, Occurrence, Scope, ScopeKind, StatementId, Tables};
 pub use token::{Token, TokenKind, Tokens};
 pub use unit::{Arm, Block, FileTree, Statement, Unit};
 pub use value::{Kind, Value, Values};

@@ -3,6 +3,7 @@
 ghost use Rattle.std.specs.Prelude.{◌≡◌};
 ghost use Rattle.ftn_tree.specs.Kinds as spec;
 
+use crate::mention::Role;
 use ftn_base::{Bytes, EntityId, Letter, Name, Span};
 use sqlite_items::Items;
 
@@ -149,109 +150,6 @@ pub struct Entity {
     pub implicit: bool,
     /// The scoping unit that it opens: that of a program unit or a procedure.
     pub opens: Option<u32>,
-}
-
-/// Where in its statement a name stands, which tells how it is used there.
-#[derive(Clone, Copy)]
-pub enum Role {
-    /// After PROGRAM, MODULE, SUBROUTINE or FUNCTION.
-    Opens,
-    /// After END and its word.
-    Ends,
-    /// After EXIT or CYCLE.
-    Leaves,
-    /// Before DO.
-    Label,
-    /// Between slashes in COMMON or SAVE.
-    Slash,
-    /// After USE.
-    Module,
-    /// The name that an item of USE has in the module, also where it is the item's only name.
-    Source,
-    /// The name that an item of USE gives before `=>`.
-    Local,
-    /// In the list of dummy arguments.
-    Dummy,
-    /// After RESULT.
-    Answer,
-    /// An entity of a type declaration.
-    Declared,
-    /// In DIMENSION.
-    Dimensioned,
-    /// Before `=` in PARAMETER.
-    Constant,
-    /// In SAVE, not between slashes.
-    Saved,
-    /// In PUBLIC or PRIVATE.
-    Accessed,
-    /// In EXTERNAL.
-    External,
-    /// In INTRINSIC.
-    Intrinsic,
-    /// In INTENT.
-    Intended,
-    /// A member in COMMON.
-    Member,
-    /// In EQUIVALENCE.
-    Tied,
-    /// After INTERFACE.
-    Generic,
-    /// In MODULE PROCEDURE.
-    Specific,
-    /// After CALL.
-    Called,
-    /// In an expression, a target or an input item, with subscripts or arguments in parentheses.
-    Parenthesised,
-    /// In an expression, a target or an input item without these, or as a DO variable.
-    Plain,
-}
-
-impl Role {
-    /// Whether the place alone tells what the name denotes: it is the name of a unit that is opened or ended, of a construct or of a
-    /// common block, or it stands in USE. Such a name makes no implicit entity.
-    pub fn is_special(self) -> bool
-        ensures { result ≡ spec.is_special self }
-    {
-        matches!(
-            self,
-            Role::Opens
-                | Role::Ends
-                | Role::Leaves
-                | Role::Label
-                | Role::Slash
-                | Role::Module
-                | Role::Source
-                | Role::Local
-        )
-    }
-
-    /// Whether the name stands there as one that a specification declares (5): in a type declaration, DIMENSION, PARAMETER, SAVE,
-    /// EXTERNAL, INTRINSIC, INTENT, COMMON or EQUIVALENCE.
-    pub fn is_declaration(self) -> bool
-        ensures { result ≡ spec.is_declaration self }
-    {
-        matches!(
-            self,
-            Role::Declared
-                | Role::Dimensioned
-                | Role::Constant
-                | Role::Saved
-                | Role::External
-                | Role::Intrinsic
-                | Role::Intended
-                | Role::Member
-                | Role::Tied
-        )
-    }
-}
-
-/// A name in a statement.
-#[derive(Clone, Copy)]
-pub struct Mention {
-    /// Its token.
-    pub token: u32,
-    /// Where in the statement it stands.
-    pub role: Role,
 }
 
 /// A name token. Those of a project are numbered from 0, by file and by offset.

@@ -3,3 +3,4 @@ pub mod Rising
 pub mod Turns
 pub mod LineStarts
 pub mod Held
+pub mod Holding

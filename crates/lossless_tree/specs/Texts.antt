@@ -1,5 +1,6 @@
 -- A text as its tokens and what stands between them, and the lines of its bytes (Fortran 90, 3.2 and 3.3).
-use Rattle.std.specs.Prelude.{ℕ, ◌+◌, ◌<◌, ◌≤◌, List, [], ◌∷◌, ◌++◌, map, count_by, take, drop, slice_range}
+use Rattle.std.specs.Prelude.{ℕ, suc, ◌+◌, ◌<◌, ◌≤◌, nat_le, nat_lt, Bool, ◌&&◌, if◌then◌else◌, List, [], ◌∷◌, ◌++◌, map, count_by, take, drop, slice_range, Option, Some, None}
+use Rattle.std.specs.Option.{option_map}
 use Rattle.ftn_tree.specs.declared.token.Token.{Token}
 use Rattle.ftn_tree.specs.Lines.{is_line_feed}
 use Rattle.ftn_tree.specs.Reading.{tokens_of}
@@ -30,3 +31,15 @@ Rise at (token ∷ tokens) size = (at ≤ token.range.start) × (token.range.sta
 -- the line of an offset, from 1: one more than the LFs before it
 abbrev pub line_at : List ℕ → ℕ → ℕ
 line_at text at = 1 + count_by is_line_feed (take at text)
+
+-- the offset stands in the token
+abbrev pub holds : ℕ → Token → Bool
+holds at token = nat_le token.range.start at && nat_lt at token.range.end
+
+-- the number of the first token that holds the offset
+abbrev pub first_holding : ℕ → List Token → Option ℕ
+first_holding at [] = None
+first_holding at (token ∷ tokens) = if holds at token then Some 0 else option_map suc (first_holding at tokens)
+
+abbrev pub token_at : List ℕ → ℕ → Option ℕ
+token_at text at = first_holding at (tokens_of text).items

@@ -5,7 +5,7 @@ ghost use Rattle.std.specs.List.Sorted.{IsPartitionedBy};
 ghost use Rattle.std.specs.List.{prefix_len};
 ghost use Rattle.ftn_tree.specs.Reading.{tokens_of};
 ghost use Rattle.lossless_tree.specs.Edges as edges;
-ghost use Rattle.lossless_tree.specs.Texts.{gap_texts, line_at, token_texts};
+ghost use Rattle.lossless_tree.specs.Texts.{gap_texts, line_at, token_at, token_texts};
 
 use ftn_tree::{Token, Tokens};
 use std::marker::Model;
@@ -98,6 +98,43 @@ impl<'a> Text<'a> {
         ensures { result ≡ line_at self.now at }
     {
         count_up_to(self.tokens.line_starts.as_slice(), at) as u32
+    }
+
+    /// The number of the token that the byte at that offset is in, counted from 0, or nothing where it is in none. A byte that a
+    /// continuation puts inside a token is in it. It searches the tokens, so it takes time in the logarithm of their count.
+    pub fn token_at(&self, at: u32) -> Option<u32>
+        ensures { result ≡ token_at self.now at }
+    {
+        let tokens = self.tokens.items.as_slice();
+        let count = ended(tokens, at);
+        begun_at(tokens, count, at)
+    }
+}
+
+/// How many tokens, which don't overlap, end at that offset or before it.
+fn ended(tokens: &[Token], at: u32) -> usize
+    requires { IsPartitionedBy (edges.has_ended at) tokens.now }
+    ensures { result ≡ prefix_len (edges.has_ended at) tokens.now }
+{
+    tokens.partition_point(
+        |token: &Token| -> bool
+            ensures { result ≡ edges.has_ended at token.now }
+        { token.range.end <= at },
+    )
+}
+
+/// That number, where there is a token and it begins at the offset at the latest.
+fn begun_at(tokens: &[Token], count: usize, at: u32) -> Option<u32>
+    requires { length tokens.now < 2 ^ 32 }
+    ensures { result ≡ edges.begun_at at count (slice_get tokens.now count) }
+{
+    let Some(token) = tokens.get(count) else {
+        return None;
+    };
+    if token.range.start <= at {
+        Some(count as u32)
+    } else {
+        None
     }
 }
 

@@ -1,4 +1,5 @@
 use Rattle.lossless_tree.proofs.Rising.{tokens_rise}
+use Rattle.lossless_tree.proofs.Holding.{apart}
 use Rattle.lossless_tree.proofs.Turns.{counted, joined, none_empty}
 use Rattle.lossless_tree.proofs.laws.tokens_and_gaps_are_the_text.Goals as goal
 
@@ -8,4 +9,5 @@ returns c = record {
   counted = counted;
   joined = joined;
   some = none_empty;
+  apart = apart;
 }

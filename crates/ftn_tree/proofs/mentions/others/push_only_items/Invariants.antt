@@ -1,0 +1,7 @@
+use Rattle.std.proofs.Common.{◌≡◌, ◌++◌, take}
+use Rattle.std.specs.List.{flat_map}
+use Rattle.ftn_tree.specs.PartMentions.{in_only_item}
+use Rattle.ftn_tree.proofs.mentions.others.push_only_items.Given as goal
+
+abbrev pub invariant-loop-item : goal.invariant-loop-item
+invariant-loop-item l = l.found.items ≡ l.initial.found.items ++ flat_map in_only_item (take l.item-index l.items)
