@@ -2,4 +2,3 @@ pub mod Adding
 pub mod Keys
 pub mod Modules
 pub mod Once
-pub mod Rows

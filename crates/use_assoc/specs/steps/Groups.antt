@@ -3,8 +3,8 @@ use Rattle.std.specs.Prelude.{◌≡◌, ℕ, nat_eq, List, [], map}
 use Rattle.std.specs.Borrow.{Bor}
 use Rattle.std.specs.Option.{unwrap_or}
 use Rattle.indexmap.specs.IndexMap.{IndexMap, get, keys}
-use Rattle.use_assoc.specs.Accessible.{lists_of, modules_of}
-use Rattle.use_assoc.specs.declared.uses.UseList.{UseList}
+use Rattle.ftn_base.specs.Accessible.{lists_of, modules_of}
+use Rattle.ftn_base.specs.declared.uses.UseList.{UseList}
 
 -- the lists that stand in a group
 abbrev pub lists_in : List (Bor UseList) → List UseList

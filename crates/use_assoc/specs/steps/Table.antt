@@ -4,8 +4,8 @@ use Rattle.std.specs.Option.{unwrap_or}
 use Rattle.std.specs.Str.{bytes_eq}
 use Rattle.indexmap.specs.IndexMap.{IndexMap, get}
 use Rattle.ftn_base.specs.declared.entity.EntityId.{EntityId}
-use Rattle.use_assoc.specs.Access.{Pair}
-use Rattle.use_assoc.specs.Accessible.{entities_of, exports_of}
+use Rattle.ftn_base.specs.Exports.{Pair}
+use Rattle.ftn_base.specs.Accessible.{entities_of, exports_of}
 use Rattle.use_assoc.specs.declared.table.Table.{Table}
 
 -- the entities that a table has by that name
