@@ -1,8 +1,8 @@
 -- Walks along uses, depth first: the path holds an entry of the list of each module on it, and all modules
 -- that were reached have marks. For the proofs of the code.
 use Rattle.std.specs.Prelude.{ℕ, ◌-◌, ◌<◌, ◌≡◌, ◌++◌, Bool, true, List, [], ◌∷◌, Option, Some, None, map, length, take, slice_index, slice_set, All}
-use Rattle.module_graph.specs.Uses.{Uses, used_by}
-use Rattle.module_graph.specs.Marks.{IsMarked, IsUnmarked}
+use Rattle.ftn_base.specs.ModuleUses.{Uses, used_by}
+use Rattle.module_graph.specs.steps.Marks.{IsMarked, IsUnmarked}
 use Rattle.module_graph.specs.declared.entries.Entry.{Entry}
 
 abbrev pub modules_of : List Entry → List ℕ

@@ -1,6 +1,6 @@
 -- Numbers of modules that never fall along a use, for the proofs of the code.
 use Rattle.std.specs.Prelude.{ℕ, ◌<◌, ◌≤◌, ◌≡◌, ◌⊎◌, List, length, slice_index, count_by, nat_eq, All, Contains}
-use Rattle.module_graph.specs.Uses.{Uses, used_by}
+use Rattle.ftn_base.specs.ModuleUses.{Uses, used_by}
 
 abbrev pub NeverFalls : List (List ℕ) → List ℕ → Type 0
 NeverFalls uses numbers = (user used : ℕ) → Uses uses user used → slice_index numbers user ≤ slice_index numbers used

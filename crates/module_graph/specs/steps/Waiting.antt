@@ -1,7 +1,7 @@
 -- Modules that wait for one that they use, and modules that are ready, for the proofs of the code.
 use Rattle.std.specs.Prelude.{ℕ, ◌<◌, ◌≡◌, ◌≢◌, ◌⊎◌, Bool, List, [], Vec, map, length, slice_index, slice_index_or, All, Contains}
-use Rattle.module_graph.specs.Uses.{used_by}
-use Rattle.module_graph.specs.Marks.{IsEntry, IsFree, IsPlaced, IsUnmarked}
+use Rattle.ftn_base.specs.ModuleUses.{used_by}
+use Rattle.module_graph.specs.steps.Marks.{IsEntry, IsFree, IsPlaced, IsUnmarked}
 use Rattle.module_graph.specs.declared.entries.Entry.{Entry}
 
 -- the lists of waiters, without where they lie in memory

@@ -1,8 +1,8 @@
 -- Marks on modules, and the state of the search for a cycle, for the proofs of the code.
 use Rattle.std.specs.Prelude.{ℕ, suc, ◌+◌, ◌*◌, ◌<◌, ◌≡◌, ◌≢◌, ◌⊎◌, Bool, true, false, not, List, length, take, slice_index, slice_index_or, count_by, All, AllPairs, Contains}
-use Rattle.module_graph.specs.Uses.{Uses, used_by}
-use Rattle.module_graph.specs.Orders.{IsGreedy, IsReady}
-use Rattle.module_graph.specs.Cycles.{IsRing}
+use Rattle.ftn_base.specs.ModuleUses.{Uses, used_by}
+use Rattle.ftn_base.specs.ModuleOrders.{IsGreedy, IsReady}
+use Rattle.ftn_base.specs.ModuleCycles.{IsRing}
 use Rattle.module_graph.specs.declared.entries.Entry.{Entry}
 
 abbrev pub IsMarked : List Bool → ℕ → Type 0
