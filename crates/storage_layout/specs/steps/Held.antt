@@ -1,12 +1,12 @@
 -- Faults by kinds, with so many of the links that the code keeps, for the proofs of the code.
 use Rattle.std.specs.Prelude.{ℕ, ◌+◌, ◌<◌, ◌≡◌, ◌≢◌, List, [], length, take, slice_index, Option, Some, None}
-use Rattle.storage_layout.specs.declared.given.Object.{Object}
+use Rattle.ftn_base.specs.declared.storage.Object.{Object}
+use Rattle.ftn_base.specs.StorageMembers.{list_links, links}
+use Rattle.ftn_base.specs.StorageFaults.{IsExtended, AreBlocksJoined, AreMixed}
 use Rattle.storage_layout.specs.declared.things.Things.{Things}
 use Rattle.storage_layout.specs.declared.kind.Kind.{Kind}
 use Rattle.storage_layout.specs.declared.kind.Kind.TheVariants as kind
-use Rattle.storage_layout.specs.Members.{list_links, links}
-use Rattle.storage_layout.specs.Faults.{IsExtended, AreBlocksJoined, AreMixed}
-use Rattle.storage_layout.specs.Kept.{given_of, sizes_in}
+use Rattle.storage_layout.specs.steps.Kept.{given_of, sizes_in}
 
 -- two places of a list have one number
 pub record HasTwins (list : List ℕ) : Type 0 where

@@ -3,7 +3,7 @@ use Rattle.std.specs.Prelude.{ℕ, max, nat_eq, Bool, true, false, if◌then◌e
 use Rattle.ftn_base.specs.declared.entity.Sort.{Sort}
 use Rattle.ftn_base.specs.declared.entity.Sort.TheVariants.{Numeric, Character}
 use Rattle.storage_layout.specs.declared.reaches.Reaches.{Reaches}
-use Rattle.storage_layout.specs.Beside.{beside_of}
+use Rattle.storage_layout.specs.steps.Beside.{beside_of}
 
 abbrev pub against_of : Reaches → Sort → ℕ → ℕ
 against_of reaches Numeric group = beside_of reaches.character.group reaches.character.end reaches.character.other group

@@ -1,6 +1,6 @@
 -- Objects as spans of units of their classes, for the proofs of the code.
 use Rattle.std.specs.Prelude.{ℕ, ◌+◌, ◌<◌, ◌≡◌, List, slice_index, slice_get, Some, All, Contains}
-use Rattle.storage_layout.specs.declared.given.Object.{Object}
+use Rattle.ftn_base.specs.declared.storage.Object.{Object}
 use Rattle.storage_layout.specs.declared.span.Span.{Span}
 
 -- the span is that of the object

@@ -1,10 +1,10 @@
 -- Where blocks end in scoping units, by the members there and the classes of their ties, for the proofs of the code.
 use Rattle.std.specs.Prelude.{ℕ, ◌+◌, ◌-◌, ◌<◌, ◌≤◌, ◌≡◌, ◌≢◌, ◌⊎◌, List, length, slice_index, slice_get, Option, Some, None, filter, nat_eq, true, option_map}
 use Rattle.ftn_base.specs.declared.entity.Tie.{Tie}
-use Rattle.storage_layout.specs.declared.given.Object.{Object}
-use Rattle.storage_layout.specs.declared.given.BlockList.{BlockList}
-use Rattle.storage_layout.specs.Faults.{IsOdd, IsFirstOdd}
-use Rattle.storage_layout.specs.Members.{Member}
+use Rattle.ftn_base.specs.declared.storage.Object.{Object}
+use Rattle.ftn_base.specs.declared.storage.BlockList.{BlockList}
+use Rattle.ftn_base.specs.StorageFaults.{IsOdd, IsFirstOdd}
+use Rattle.ftn_base.specs.StorageMembers.{Member}
 
 -- where the class of the tie's second thing ends, from the tie's unit of its first thing
 abbrev pub last_of : List ℕ → List ℕ → List ℕ → Tie → ℕ

@@ -3,8 +3,8 @@ use Rattle.std.specs.Prelude.{ℕ, ◌+◌, ◌<◌, ◌≤◌, ◌≡◌, pos, 
 use Rattle.ftn_base.specs.declared.entity.Tie.{Tie}
 use Rattle.ftn_base.specs.Storage.{object, Leads, tie_links}
 use Rattle.equiv_class.specs.declared.sequences.TheConstants.{MIDDLE}
-use Rattle.equiv_class.specs.Lists.{Lists, IsListed}
-use Rattle.equiv_class.specs.Joins.{IsMet}
+use Rattle.equiv_class.specs.steps.Lists.{Lists, IsListed}
+use Rattle.equiv_class.specs.steps.Joins.{IsMet}
 
 -- the two units of each tie are one, and objects of one label are joined by a walk
 pub record IsTied (ties : List Tie) (s : Lists) : Type 0 where

@@ -1,14 +1,14 @@
 -- What the code keeps of objects, members and ties, for the proofs of the code.
 use Rattle.std.specs.Prelude.{ℕ, ◌≤◌, ◌<◌, ◌^◌, ◌≡◌, ◌≢◌, List, [], length, sum, take, drop, slice_index, All, AllPairs}
 use Rattle.ftn_base.specs.declared.entity.Tie.{Tie}
-use Rattle.equiv_class.specs.Sound.{IsWithin}
-use Rattle.storage_layout.specs.declared.things.Things.{Things}
+use Rattle.ftn_base.specs.Storage.{IsWithin}
 use Rattle.ftn_base.specs.Storage.{IsContradicted}
+use Rattle.ftn_base.specs.StorageMembers.{Member, links}
+use Rattle.ftn_base.specs.StorageFaults.{IsFirst}
+use Rattle.storage_layout.specs.declared.things.Things.{Things}
 use Rattle.storage_layout.specs.declared.fault.LayoutFault.{LayoutFault}
 use Rattle.storage_layout.specs.declared.fault.LayoutFault.TheVariants as fault
-use Rattle.storage_layout.specs.Members.{Member, links}
-use Rattle.storage_layout.specs.Faults.{IsFirst}
-use Rattle.storage_layout.specs.Numbered.{AreNames, AreMemberTies, AreThings}
+use Rattle.storage_layout.specs.steps.Numbered.{AreNames, AreMemberTies, AreThings}
 
 -- each member is an object that is there, and stands once; each object takes units, and all take few
 pub record AreMembers (sizes : List ℕ) (members : List Member) : Type 0 where

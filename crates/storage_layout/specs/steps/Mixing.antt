@@ -1,11 +1,11 @@
 -- Units of numeric and of character objects that have one class and one place in it, for the proofs of the code.
 use Rattle.std.specs.Prelude.{ℕ, ◌+◌, ◌<◌, ◌≡◌, ◌≢◌, nat_eq, List, [], ◌∷◌, take, length, slice_index, slice_get, Option, Some, None, if◌then◌else◌}
 use Rattle.ftn_base.specs.declared.entity.Sort.{Sort}
-use Rattle.storage_layout.specs.declared.given.Object.{Object}
+use Rattle.ftn_base.specs.declared.storage.Object.{Object}
+use Rattle.ftn_base.specs.StorageFaults.{IsPair}
 use Rattle.storage_layout.specs.declared.span.Span.{Span}
 use Rattle.storage_layout.specs.declared.reaches.Reaches.{Reaches}
-use Rattle.storage_layout.specs.Faults.{IsPair}
-use Rattle.storage_layout.specs.Reaching.{against_of, further}
+use Rattle.storage_layout.specs.steps.Reaching.{against_of, further}
 
 -- a unit of a numeric object and a unit of a character object of another group have one class and one place in it
 pub record AreMet (objects : List Object) (class offset group : List ℕ) : Type 0 where

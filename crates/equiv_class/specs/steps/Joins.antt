@@ -2,7 +2,7 @@
 use Rattle.std.specs.Prelude.{ℕ, ◌+◌, ◌-◌, max, ◌≡◌, ◌≢◌, ◌⊎◌, [], ◌++◌, Option, Some, None, slice_index, slice_set}
 use Rattle.ftn_base.specs.declared.entity.Tie.{Tie}
 use Rattle.equiv_class.specs.declared.sequences.TheConstants.{MIDDLE}
-use Rattle.equiv_class.specs.Lists.{Lists, IsMoved, members_of}
+use Rattle.equiv_class.specs.steps.Lists.{Lists, IsMoved, members_of}
 
 -- the same tie, told from its other object
 abbrev pub turned : Tie → Tie
