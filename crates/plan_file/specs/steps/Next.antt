@@ -4,7 +4,8 @@ use Rattle.std.specs.List.{list_all}
 use Rattle.std.specs.Ordering.{is_lt}
 use Rattle.ftn_base.specs.Files.{File, by_name, is_source}
 use Rattle.ftn_base.specs.Names.{is_file_name}
-use Rattle.plan_file.specs.Plans.{most_of_text, most_of_all, size_of, file_field, text_field, entry}
+use Rattle.ftn_base.specs.Limits.{most_file_bytes, most_project_bytes}
+use Rattle.plan_file.specs.Plans.{size_of, file_field, text_field, entry}
 use Rattle.plan_file.specs.Fields.{BeginsWith, IsTextOf, IsFirstBroken}
 use Rattle.plan_file.specs.declared.fault.Stop.{Stop}
 use Rattle.plan_file.specs.declared.fault.Stop.TheVariants.{Broken, NoMemory}
@@ -17,13 +18,13 @@ are_before files name = list_all (λ file. is_lt (by_name file.0 name)) files
 pub record IsNext (files : List File) (size : ℕ) (name : List ℕ) : Type 0 where
   pub valid : is_file_name name ≡ true
   pub source : is_source name ≡ true
-  pub short : size ≤ most_of_text
+  pub short : size ≤ most_file_bytes
   pub later : are_before files name ≡ true
-  pub small : size_of files + size ≤ most_of_all
+  pub small : size_of files + size ≤ most_project_bytes
 
 -- the same of a file's name, as a test
 abbrev pub may_come : List File → ℕ → List ℕ → Bool
-may_come files size name = is_source name && are_before files name && nat_le size most_of_text && nat_le (size_of files + size) most_of_all
+may_come files size name = is_source name && are_before files name && nat_le size most_file_bytes && nat_le (size_of files + size) most_project_bytes
 
 -- that byte isn't among these
 abbrev pub lacks : ℕ → List ℕ → Bool
