@@ -25,3 +25,5 @@ pub mod Regions
 pub mod Nesting
 pub mod NestFaults
 pub mod FileFaults
+pub mod ListItems
+pub mod ListRecords

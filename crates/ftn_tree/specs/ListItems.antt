@@ -1,9 +1,10 @@
--- The items that READ takes (Fortran 90, 10.8.1); their few forms are this project's own.
-use Rattle.std.specs.Prelude.{ℕ, ◌^◌, ℤ, pos, negsuc, Bool, true, false, ◌&&◌, ◌||◌, not, ◌==◌, nat_lt, if◌then◌else◌, List, [], ◌∷◌, Option, Some, None}
+-- The items that READ takes from records (Fortran 90, 10.8.1); their few forms are this project's own.
+use Rattle.std.specs.Prelude.{ℕ, ℤ, Bool, true, false, ◌&&◌, ◌||◌, not, ◌==◌, if◌then◌else◌, List, [], ◌∷◌, Option, Some, None}
 use Rattle.std.specs.List.{list_all}
 use Rattle.std.specs.Option.{option_map}
 use Rattle.std.specs.Str.{all_ascii_digits}
 use Rattle.std.specs.Str.Parse.{without_leading_sign, signed_digits_value}
+use Rattle.ftn_base.specs.Arithmetic.{is_integer}
 use Rattle.ftn_base.specs.Letters.{is_blank}
 use Rattle.ftn_base.specs.declared.entity.Ty.{Ty}
 use Rattle.ftn_base.specs.declared.entity.Ty.TheVariants.{Integer, Logical, Character}
@@ -26,14 +27,9 @@ is_run bytes = is_some bytes && list_all is_item_byte bytes
 abbrev pub is_signed_numeral : List ℕ → Bool
 is_signed_numeral bytes = is_some (without_leading_sign bytes) && all_ascii_digits (without_leading_sign bytes)
 
--- an integer of 32 bits
-abbrev pub fits : ℤ → Bool
-fits (pos n) = nat_lt n (2 ^ 31)
-fits (negsuc n) = nat_lt n (2 ^ 31)
-
 -- the integer that a sign and digits write, within 32 bits
 abbrev pub whole_of : List ℕ → Option ℤ
-whole_of bytes = if is_signed_numeral bytes && fits (signed_digits_value 10 bytes) then Some (signed_digits_value 10 bytes) else None
+whole_of bytes = if is_signed_numeral bytes && is_integer (signed_digits_value 10 bytes) then Some (signed_digits_value 10 bytes) else None
 
 -- `t` or `f`, in either case
 abbrev pub truth_of_letter : ℕ → Option Bool
