@@ -5,7 +5,8 @@ use Rattle.ftn_base.specs.Storage.{tie_links}
 use Rattle.ftn_base.specs.Storage.{IsWithin}
 use Rattle.ftn_base.specs.declared.storage.Object.{Object}
 use Rattle.ftn_base.specs.declared.storage.BlockList.{BlockList}
-use Rattle.ftn_base.specs.StorageMembers.{Member, all_members, sizes_of, links}
+use Rattle.ftn_base.specs.declared.storage.Member.{Member}
+use Rattle.ftn_base.specs.StorageMembers.{all_members, sizes_of, links}
 use Rattle.ftn_base.specs.StorageFaults.{IsExtended, AreBlocksJoined}
 use Rattle.ftn_base.specs.StorageLayout.{IsSound}
 use Rattle.equiv_class.specs.Sound as classes

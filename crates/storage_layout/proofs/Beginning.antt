@@ -7,7 +7,8 @@ use Rattle.std.proofs.lemmas.Bool.{ltb-true, ltb-false}
 use Rattle.ftn_base.specs.Storage.{Thing, Link, object, block, member_link, Leads, AreOneUnit}
 use Rattle.ftn_base.proofs.WalkLaws.{leads_kept}
 use Rattle.ftn_base.specs.declared.storage.Object.{Object}
-use Rattle.ftn_base.specs.StorageMembers.{Member, start_after, links_after, list_links, links}
+use Rattle.ftn_base.specs.declared.storage.Member.{Member}
+use Rattle.ftn_base.specs.StorageMembers.{start_after, links_after, list_links, links}
 use Rattle.ftn_base.specs.StorageFaults.{IsExtended, AreBlocksJoined, AreMixed}
 use Rattle.storage_layout.specs.declared.things.Things.{Things}
 use Rattle.storage_layout.specs.declared.kind.Kind.{Kind}

@@ -9,7 +9,8 @@ use Rattle.std.proofs.lemmas.Bool.{eqb-true}
 use Rattle.ftn_base.specs.declared.entity.Tie.{Tie}
 use Rattle.ftn_base.specs.Storage.{Thing, Link, object, block, member_link, tie_link, tie_links, Leads, IsContradicted}
 use Rattle.ftn_base.proofs.WalkLaws.{leads_kept, leads_nowhere, leads_on, leads_back, leads_by, leads_forward}
-use Rattle.ftn_base.specs.StorageMembers.{Member, start_after, links_after, list_links, links}
+use Rattle.ftn_base.specs.declared.storage.Member.{Member}
+use Rattle.ftn_base.specs.StorageMembers.{start_after, links_after, list_links, links}
 use Rattle.storage_layout.specs.steps.Numbered.{numbered, named, IsMemberTie, AreMemberTies}
 use Rattle.storage_layout.proofs.Potential.{either, cons_cases, cons_more}
 

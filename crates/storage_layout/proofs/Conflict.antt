@@ -6,7 +6,8 @@ use Rattle.std.proofs.lemmas.Bool.{ltb-true, ltb-false}
 use Rattle.ftn_base.specs.declared.entity.Tie.{Tie}
 use Rattle.ftn_base.specs.Storage.{Link, IsContradicted, tie_links}
 use Rattle.ftn_base.proofs.WalkLaws.{leads_more}
-use Rattle.ftn_base.specs.StorageMembers.{Member, list_links, links}
+use Rattle.ftn_base.specs.declared.storage.Member.{Member}
+use Rattle.ftn_base.specs.StorageMembers.{list_links, links}
 use Rattle.ftn_base.specs.StorageFaults.{IsFirst}
 use Rattle.storage_layout.specs.steps.Numbered.{AreMemberTies}
 use Rattle.storage_layout.proofs.Potential.{lists_agree}

@@ -7,7 +7,8 @@ use Rattle.std.proofs.lemmas.Bool.{eqb-true, ltb-true, ltb-false}
 use Rattle.ftn_base.specs.declared.entity.Tie.{Tie}
 use Rattle.ftn_base.specs.Storage.{Thing, Link, object, block, member_link, tie_link, tie_links, Leads, IsContradicted}
 use Rattle.ftn_base.proofs.WalkLaws.{leads_kept, leads_on, leads_forward, leads_backward, leads_more}
-use Rattle.ftn_base.specs.StorageMembers.{Member, start_after, links_after, list_links, links}
+use Rattle.ftn_base.specs.declared.storage.Member.{Member}
+use Rattle.ftn_base.specs.StorageMembers.{start_after, links_after, list_links, links}
 use Rattle.ftn_base.specs.StorageFaults.{IsExtended}
 use Rattle.equiv_class.specs.Sound as classes
 use Rattle.storage_layout.proofs.Potential.{either, cons_cases, cons_more}

@@ -2,7 +2,7 @@
 use Rattle.std.proofs.Common.{◌≡◌, ℕ, ◌+◌, ◌<◌, ◌≤◌, max, ◌⊎◌, inl, inr, Bool, true, false, ◌&&◌, cond, List, nat_eq, nat_lt, Some, slice_get, refl, sym, ◌∙◌, subst, ap, arith}
 use Rattle.std.proofs.lemmas.Bool.{ltb-true, ltb-false, eqb-true, eq-eqb}
 use Rattle.ftn_base.specs.declared.entity.Tie.{Tie}
-use Rattle.ftn_base.specs.StorageMembers.{Member}
+use Rattle.ftn_base.specs.declared.storage.Member.{Member}
 use Rattle.storage_layout.specs.steps.Ends.{last_of, IsEndOf, IsGreatest}
 use Rattle.storage_layout.proofs.Numbers.{lt_split}
 use Rattle.storage_layout.proofs.Start.{clash}

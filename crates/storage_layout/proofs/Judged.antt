@@ -7,7 +7,8 @@ use Rattle.std.proofs.lemmas.Bool.{ltb-true, ltb-false}
 use Rattle.ftn_base.specs.declared.entity.Tie.{Tie}
 use Rattle.ftn_base.specs.Storage.{Link, object, member_link, tie_links, IsContradicted}
 use Rattle.ftn_base.specs.Storage.{IsWithin}
-use Rattle.ftn_base.specs.StorageMembers.{Member, start_after, links_after, list_links, links}
+use Rattle.ftn_base.specs.declared.storage.Member.{Member}
+use Rattle.ftn_base.specs.StorageMembers.{start_after, links_after, list_links, links}
 use Rattle.ftn_base.specs.StorageFaults.{IsExtended, AreBlocksJoined}
 use Rattle.equiv_class.specs.Sound as classes
 use Rattle.storage_layout.specs.steps.Numbered.{AreNames, AreMemberTies, AreThings}

@@ -12,7 +12,8 @@ use Rattle.ftn_base.specs.declared.entity.Sort.TheVariants as sort
 use Rattle.ftn_base.specs.Storage.{IsWithin}
 use Rattle.ftn_base.specs.declared.storage.Object.{Object}
 use Rattle.ftn_base.specs.declared.storage.BlockList.{BlockList}
-use Rattle.ftn_base.specs.StorageMembers.{Member, all_members, sizes_of, is_in, units_in}
+use Rattle.ftn_base.specs.declared.storage.Member.{Member}
+use Rattle.ftn_base.specs.StorageMembers.{all_members, sizes_of, is_in, units_in}
 use Rattle.ftn_base.specs.StorageGiven.{IsObjectOf, IsTieOf, AreGiven}
 use Rattle.ftn_base.specs.StorageFaults.{AreSmall}
 use Rattle.storage_layout.specs.declared.things.Things.{Things}

@@ -10,7 +10,8 @@ use Rattle.std.proofs.lemmas.Bool.{eqb-true, ltb-true, ltb-false}
 use Rattle.ftn_base.specs.declared.entity.Tie.{Tie}
 use Rattle.ftn_base.specs.Storage.{Thing, Link, object, block, member_link, tie_links, Leads, AreJoined}
 use Rattle.ftn_base.proofs.WalkLaws.{leads_kept, leads_forward}
-use Rattle.ftn_base.specs.StorageMembers.{Member, units_in, start_after, links_after, list_links, links}
+use Rattle.ftn_base.specs.declared.storage.Member.{Member}
+use Rattle.ftn_base.specs.StorageMembers.{units_in, start_after, links_after, list_links, links}
 use Rattle.ftn_base.specs.StorageFaults.{IsExtended, AreBlocksJoined}
 use Rattle.ftn_base.specs.StorageLayout.{AreAreas, AreNumbered, AreApart, AreBegun, AreEnds, AreBlocks, IsSound}
 use Rattle.equiv_class.specs.Sound as classes

@@ -6,7 +6,8 @@ use Rattle.ftn_base.specs.declared.entity.Tie.{Tie}
 use Rattle.ftn_base.specs.Storage.{tie_links, IsContradicted}
 use Rattle.ftn_base.specs.Storage.{IsWithin}
 use Rattle.ftn_base.specs.declared.storage.Object.{Object}
-use Rattle.ftn_base.specs.StorageMembers.{Member, sizes_of, list_links, links}
+use Rattle.ftn_base.specs.declared.storage.Member.{Member}
+use Rattle.ftn_base.specs.StorageMembers.{sizes_of, list_links, links}
 use Rattle.ftn_base.specs.StorageFaults.{AreMixed}
 use Rattle.equiv_class.specs.Sound as classes
 use Rattle.storage_layout.specs.steps.Numbered.{AreThings}

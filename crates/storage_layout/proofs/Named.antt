@@ -11,7 +11,8 @@ use Rattle.std.proofs.lemmas.Bool.{eqb-true, eq-eqb}
 use Rattle.indexmap.specs.IndexMap.{IndexMap, get}
 use Rattle.indexmap.specs.IndexSet.{insert_key}
 use Rattle.ftn_base.specs.declared.entity.Tie.{Tie}
-use Rattle.ftn_base.specs.StorageMembers.{Member, is_in, units_in}
+use Rattle.ftn_base.specs.declared.storage.Member.{Member}
+use Rattle.ftn_base.specs.StorageMembers.{is_in, units_in}
 use Rattle.storage_layout.specs.steps.Numbered.{AreNames, IsMemberTie, AreMemberTies}
 use Rattle.storage_layout.specs.steps.Naming.{is_same, end_in, AreLonger, IsRaised, IsNaming}
 use Rattle.storage_layout.proofs.Start.{clash}

@@ -8,7 +8,8 @@ use Rattle.ftn_base.specs.declared.entity.Tie.{Tie}
 use Rattle.ftn_base.specs.Storage.{Link, object, block, tie_links, Leads, IsContradicted}
 use Rattle.ftn_base.specs.declared.storage.Object.{Object}
 use Rattle.ftn_base.specs.declared.storage.BlockList.{BlockList}
-use Rattle.ftn_base.specs.StorageMembers.{Member, all_members, sizes_of, links}
+use Rattle.ftn_base.specs.declared.storage.Member.{Member}
+use Rattle.ftn_base.specs.StorageMembers.{all_members, sizes_of, links}
 use Rattle.ftn_base.specs.StorageGiven.{IsObjectOf, IsTieOf}
 use Rattle.ftn_base.specs.StorageFaults.{AreBlocksJoined, links_in, IsEnd, IsOdd}
 use Rattle.equiv_class.specs.Sound as classes

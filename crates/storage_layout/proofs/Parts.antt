@@ -7,7 +7,8 @@ use Rattle.ftn_base.specs.declared.entity.Tie.{Tie}
 use Rattle.ftn_base.specs.Storage.{IsContradicted, tie_links}
 use Rattle.ftn_base.proofs.WalkLaws.{leads_more}
 use Rattle.ftn_base.specs.Storage.{IsWithin}
-use Rattle.ftn_base.specs.StorageMembers.{Member, links}
+use Rattle.ftn_base.specs.declared.storage.Member.{Member}
+use Rattle.ftn_base.specs.StorageMembers.{links}
 use Rattle.ftn_base.specs.StorageFaults.{IsFirst}
 use Rattle.equiv_class.specs.Conflicts.{IsConflict}
 use Rattle.storage_layout.specs.steps.Numbered.{AreThings}

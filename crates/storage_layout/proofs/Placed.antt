@@ -5,7 +5,8 @@ use Rattle.std.proofs.lemmas.List.{length-append, take_more, append-nil}
 use Rattle.std.proofs.lemmas.List.Concat.{flat_map-cons}
 use Rattle.std.proofs.lemmas.Option.{slice_get-get_or}
 use Rattle.ftn_base.specs.declared.storage.BlockList.{BlockList}
-use Rattle.ftn_base.specs.StorageMembers.{Member, members_of, all_members}
+use Rattle.ftn_base.specs.declared.storage.Member.{Member}
+use Rattle.ftn_base.specs.StorageMembers.{members_of, all_members}
 use Rattle.ftn_base.specs.StorageFaults.{IsPlace}
 
 members_counted : (block scope : ℕ) (objects : List ℕ) → length (map {B = Member} (λ object. record { block = block; scope = scope; object = object }) objects) ≡ length objects

@@ -11,7 +11,8 @@ use Rattle.ftn_base.specs.declared.entity.Tie.{Tie}
 use Rattle.ftn_base.specs.Storage.{Thing, Link, object, block, tie_link, tie_links, Leads, IsContradicted}
 use Rattle.ftn_base.proofs.WalkLaws.{leads_kept, leads_nowhere, leads_on, leads_by, leads_forward, leads_backward, leads_more}
 use Rattle.ftn_base.specs.declared.storage.Object.{Object}
-use Rattle.ftn_base.specs.StorageMembers.{Member, sizes_of, start_after, list_links, links}
+use Rattle.ftn_base.specs.declared.storage.Member.{Member}
+use Rattle.ftn_base.specs.StorageMembers.{sizes_of, start_after, list_links, links}
 use Rattle.ftn_base.specs.StorageGiven.{IsObjectOf, IsTieOf}
 use Rattle.ftn_base.specs.StorageFaults.{AreBlocksJoined, is_of, is_tie_in, links_in, IsEnd}
 use Rattle.equiv_class.specs.Sound as classes

@@ -5,7 +5,8 @@ use Rattle.std.proofs.lemmas.List.{append-nil, append_assoc}
 use Rattle.std.proofs.lemmas.List.Elements.{filter-append}
 use Rattle.std.proofs.lemmas.Bool.{eqb-true, eq-eqb}
 use Rattle.ftn_base.specs.Storage.{Link, member_link}
-use Rattle.ftn_base.specs.StorageMembers.{Member, is_in, units_in, start_after, links_after}
+use Rattle.ftn_base.specs.declared.storage.Member.{Member}
+use Rattle.ftn_base.specs.StorageMembers.{is_in, units_in, start_after, links_after}
 use Rattle.storage_layout.proofs.Potential.{either, cons_cases, cons_more}
 use Rattle.storage_layout.proofs.Start.{filter_twice, filter_first, filter_other}
 

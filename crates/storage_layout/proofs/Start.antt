@@ -8,7 +8,8 @@ use Rattle.std.proofs.lemmas.Bool.{eqb-true, eq-eqb}
 use Rattle.ftn_base.specs.declared.entity.Tie.{Tie}
 use Rattle.ftn_base.specs.Storage.{Thing, Link, object, block, member_link, tie_links, Leads}
 use Rattle.ftn_base.proofs.WalkLaws.{leads_kept, leads_nowhere, leads_on, leads_by, leads_forward, leads_backward}
-use Rattle.ftn_base.specs.StorageMembers.{Member, is_in, units_in, start_after, links_after, list_links, links}
+use Rattle.ftn_base.specs.declared.storage.Member.{Member}
+use Rattle.ftn_base.specs.StorageMembers.{is_in, units_in, start_after, links_after, list_links, links}
 use Rattle.ftn_base.specs.StorageFaults.{IsExtended, AreBlocksJoined}
 use Rattle.storage_layout.proofs.Potential.{either, cons_cases, cons_more}
 

@@ -5,7 +5,8 @@ use Rattle.ftn_base.specs.declared.entity.Tie.{Tie}
 use Rattle.ftn_base.specs.Storage.{IsContradicted, tie_links}
 use Rattle.ftn_base.specs.declared.storage.Object.{Object}
 use Rattle.ftn_base.specs.declared.storage.BlockList.{BlockList}
-use Rattle.ftn_base.specs.StorageMembers.{Member, all_members, sizes_of, list_links, links}
+use Rattle.ftn_base.specs.declared.storage.Member.{Member}
+use Rattle.ftn_base.specs.StorageMembers.{all_members, sizes_of, list_links, links}
 use Rattle.ftn_base.specs.StorageFaults.{IsFirst, IsExtended, AreBlocksJoined, AreMixed}
 use Rattle.ftn_base.specs.StorageGiven.{IsObjectOf, IsTieOf}
 use Rattle.ftn_base.specs.StorageFaults.{IsPlace, TieTold, MemberTold, IsApart}

@@ -7,7 +7,8 @@ use Rattle.std.proofs.lemmas.Bool.{eqb-true}
 use Rattle.ftn_base.specs.declared.entity.Tie.{Tie}
 use Rattle.ftn_base.specs.Storage.{Thing, Link, object, block, tie_links, Leads, AreJoined}
 use Rattle.ftn_base.proofs.WalkLaws.{leads_kept, leads_back}
-use Rattle.ftn_base.specs.StorageMembers.{Member, list_links, links}
+use Rattle.ftn_base.specs.declared.storage.Member.{Member}
+use Rattle.ftn_base.specs.StorageMembers.{list_links, links}
 use Rattle.ftn_base.specs.StorageFaults.{AreBlocksJoined}
 use Rattle.storage_layout.specs.steps.Numbered.{named, AreMemberTies}
 use Rattle.storage_layout.proofs.Potential.{either}

@@ -4,7 +4,7 @@ use Rattle.ftn_base.specs.declared.entity.Tie.{Tie}
 use Rattle.ftn_base.specs.declared.storage.Object.{Object}
 use Rattle.ftn_base.specs.declared.storage.BlockList.{BlockList}
 use Rattle.ftn_base.specs.StorageFaults.{IsOdd, IsFirstOdd}
-use Rattle.ftn_base.specs.StorageMembers.{Member}
+use Rattle.ftn_base.specs.declared.storage.Member.{Member}
 
 -- where the class of the tie's second thing ends, from the tie's unit of its first thing
 abbrev pub last_of : List ℕ → List ℕ → List ℕ → Tie → ℕ

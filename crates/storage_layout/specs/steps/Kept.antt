@@ -3,7 +3,8 @@ use Rattle.std.specs.Prelude.{ℕ, ◌≤◌, ◌<◌, ◌^◌, ◌≡◌, ◌�
 use Rattle.ftn_base.specs.declared.entity.Tie.{Tie}
 use Rattle.ftn_base.specs.Storage.{IsWithin}
 use Rattle.ftn_base.specs.Storage.{IsContradicted}
-use Rattle.ftn_base.specs.StorageMembers.{Member, links}
+use Rattle.ftn_base.specs.declared.storage.Member.{Member}
+use Rattle.ftn_base.specs.StorageMembers.{links}
 use Rattle.ftn_base.specs.StorageFaults.{IsFirst}
 use Rattle.storage_layout.specs.declared.things.Things.{Things}
 use Rattle.storage_layout.specs.declared.fault.LayoutFault.{LayoutFault}

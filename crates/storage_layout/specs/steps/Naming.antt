@@ -3,7 +3,8 @@ use Rattle.std.specs.Prelude.{ℕ, ◌+◌, ◌≤◌, ◌≡◌, ◌≢◌, ◌
 use Rattle.std.specs.Option.{unwrap_or}
 use Rattle.std.specs.List.{position_or_len}
 use Rattle.indexmap.specs.IndexMap.{IndexMap, get}
-use Rattle.ftn_base.specs.StorageMembers.{Member, is_in, units_in}
+use Rattle.ftn_base.specs.declared.storage.Member.{Member}
+use Rattle.ftn_base.specs.StorageMembers.{is_in, units_in}
 use Rattle.storage_layout.specs.steps.Numbered.{AreNames}
 
 -- one block and one scoping unit

@@ -3,7 +3,8 @@ use Rattle.std.specs.Prelude.{ℕ, ◌+◌, ◌-◌, ◌<◌, ◌≤◌, ◌≡�
 use Rattle.std.specs.List.{position_or_len}
 use Rattle.ftn_base.specs.declared.entity.Tie.{Tie}
 use Rattle.ftn_base.specs.Storage.{Thing, object, block}
-use Rattle.ftn_base.specs.StorageMembers.{Member, start_after, units_in}
+use Rattle.ftn_base.specs.declared.storage.Member.{Member}
+use Rattle.ftn_base.specs.StorageMembers.{start_after, units_in}
 
 -- objects have their own numbers, and blocks come after them
 abbrev pub numbered : ℕ → List ℕ → Thing → Thing
