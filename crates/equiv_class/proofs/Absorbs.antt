@@ -3,8 +3,8 @@ use Rattle.std.proofs.Common.{◌≡◌, ℕ, ◌+◌, ◌-◌, ◌<◌, ◌≤�
 use Rattle.std.proofs.lemmas.List.Elements.{Contains-get_or}
 use Rattle.ftn_base.specs.declared.entity.Tie.{Tie}
 use Rattle.equiv_class.specs.declared.sequences.TheConstants.{MIDDLE}
-use Rattle.equiv_class.specs.Lists.{IsMoved, IsReady, Lists, member_lists, members_of}
-use Rattle.equiv_class.specs.Joins.{label_a, label_b, unit_a, unit_b}
+use Rattle.equiv_class.specs.steps.Lists.{IsMoved, IsReady, Lists, member_lists, members_of}
+use Rattle.equiv_class.specs.steps.Joins.{label_a, label_b, unit_a, unit_b}
 use Rattle.equiv_class.proofs.Relabels.{written_back}
 
 module _ (s : Lists) (tie : Tie) (ready : IsReady s tie) where

@@ -5,11 +5,12 @@ use Rattle.std.proofs.lemmas.List.{get_or_default}
 use Rattle.ftn_base.specs.declared.entity.Tie.{Tie}
 use Rattle.ftn_base.specs.Storage.{object, Leads, tie_links}
 use Rattle.ftn_base.proofs.WalkLaws.{leads_by}
+use Rattle.ftn_base.specs.Storage.{IsWithin}
 use Rattle.equiv_class.specs.declared.sequences.TheConstants.{MIDDLE}
-use Rattle.equiv_class.specs.Sound.{IsSound, IsWithin}
-use Rattle.equiv_class.specs.Lists.{Lists, begin_of, reach_of}
-use Rattle.equiv_class.specs.Joining.{IsJoined}
-use Rattle.equiv_class.specs.Numbers.{IsNumbered}
+use Rattle.equiv_class.specs.Sound.{IsSound}
+use Rattle.equiv_class.specs.steps.Lists.{Lists, begin_of, reach_of}
+use Rattle.equiv_class.specs.steps.Joining.{IsJoined}
+use Rattle.equiv_class.specs.steps.Numbers.{IsNumbered}
 use Rattle.equiv_class.proofs.Reached.{reached}
 
 -- the labels of the classes are labels of objects

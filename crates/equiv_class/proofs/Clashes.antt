@@ -7,12 +7,12 @@ use Rattle.std.proofs.lemmas.Option.{slice_get-get_or}
 use Rattle.ftn_base.specs.declared.entity.Tie.{Tie}
 use Rattle.ftn_base.specs.Storage.{Thing, object, block, IsContradicted, IsOffset, Leads, tie_link, tie_links}
 use Rattle.ftn_base.proofs.WalkLaws.{leads_backward, leads_by, leads_more, leads_on}
+use Rattle.ftn_base.specs.Storage.{IsWithin}
 use Rattle.equiv_class.specs.declared.sequences.TheConstants.{MIDDLE}
-use Rattle.equiv_class.specs.Sound.{IsWithin}
 use Rattle.equiv_class.specs.Conflicts.{IsConflict, IsPlaceOf}
-use Rattle.equiv_class.specs.Lists.{Lists}
-use Rattle.equiv_class.specs.Joins.{IsClash}
-use Rattle.equiv_class.specs.Joining.{IsJoined}
+use Rattle.equiv_class.specs.steps.Lists.{Lists}
+use Rattle.equiv_class.specs.steps.Joins.{IsClash}
+use Rattle.equiv_class.specs.steps.Joining.{IsJoined}
 use Rattle.equiv_class.proofs.MergedTies.{link_here, links_more, more_ties}
 use Rattle.equiv_class.proofs.Reached.{IsAt, consistent, reached}
 

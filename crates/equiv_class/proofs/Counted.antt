@@ -2,8 +2,8 @@
 use Rattle.std.proofs.Common.{◌≡◌, ◌≢◌, ℕ, ◌+◌, ◌<◌, ◌≤◌, Option, Some, None, List, [], ◌∷◌, ◌++◌, length, get_or, take, drop, set, All, inl, inr, sym, ◌∙◌, subst, subst₂, ap, arith, length-set}
 use Rattle.std.proofs.lemmas.Bool.{cases_eq, cases_lt}
 use Rattle.std.proofs.lemmas.List.{get_or-set_other, get_or-set_same, get_or_append_left, get_or_push, length_push}
+use Rattle.equiv_class.specs.steps.Numbers.{IsCounted, IsNumbered, IsNumbering, number_at}
 use Rattle.equiv_class.proofs.Relabels.{written_back}
-use Rattle.equiv_class.specs.Numbers.{IsCounted, IsNumbered, IsNumbering, number_at}
 
 injective : (a b : ℕ) → Some a ≡ Some b → a ≡ b
 injective a b e = cc

@@ -4,8 +4,8 @@ use Rattle.std.proofs.lemmas.Bool.{cases_eq, cases_lt}
 use Rattle.std.proofs.lemmas.List.{get_or-append_right, get_or-set_other, get_or-set_same, get_or_append_left}
 use Rattle.std.proofs.lemmas.List.Elements.{Contains-append_cases, Contains-append_left, Contains-append_right, Contains-get_or}
 use Rattle.ftn_base.specs.declared.entity.Tie.{Tie}
-use Rattle.equiv_class.specs.Lists.{IsListed, Lists, members_of}
-use Rattle.equiv_class.specs.Joins.{IsAbsorbed, label_a, label_b}
+use Rattle.equiv_class.specs.steps.Lists.{IsListed, Lists, members_of}
+use Rattle.equiv_class.specs.steps.Joins.{IsAbsorbed, label_a, label_b}
 use Rattle.equiv_class.proofs.Seats.{moved, seat, stayed, stayed_a}
 
 none_in : (v : ℕ) → Contains [] v → ⊥

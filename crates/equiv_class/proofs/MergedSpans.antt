@@ -4,11 +4,11 @@ use Rattle.std.proofs.lemmas.Bool.{cases_eq, cases_lt}
 use Rattle.std.proofs.lemmas.List.{get_or-set_other, get_or-set_same}
 use Rattle.std.proofs.lemmas.List.Sums.{sum_by-set}
 use Rattle.ftn_base.specs.declared.entity.Tie.{Tie}
+use Rattle.ftn_base.specs.Storage.{IsWithin}
 use Rattle.equiv_class.specs.declared.sequences.TheConstants.{MIDDLE}
-use Rattle.equiv_class.specs.Sound.{IsWithin}
-use Rattle.equiv_class.specs.Lists.{IsListed, Lists}
-use Rattle.equiv_class.specs.Joins.{IsAbsorbed, label_a, label_b, unit_a, unit_b}
-use Rattle.equiv_class.specs.Joining.{IsSpanned}
+use Rattle.equiv_class.specs.steps.Lists.{IsListed, Lists}
+use Rattle.equiv_class.specs.steps.Joins.{IsAbsorbed, label_a, label_b, unit_a, unit_b}
+use Rattle.equiv_class.specs.steps.Joining.{IsSpanned}
 use Rattle.equiv_class.proofs.Seats.{HasStayed, WasMoved, moved, seat, stayed, stayed_a}
 
 -- ---- one list of how far sequences reach

@@ -7,10 +7,10 @@ use Rattle.std.proofs.lemmas.List.Elements.{All-push, Contains-append_left, Cont
 use Rattle.ftn_base.specs.declared.entity.Tie.{Tie}
 use Rattle.ftn_base.specs.Storage.{Link, object, Leads, tie_link, tie_links}
 use Rattle.ftn_base.proofs.WalkLaws.{leads_back, leads_by, leads_forward, leads_more, leads_on}
-use Rattle.equiv_class.specs.Sound.{IsWithin}
-use Rattle.equiv_class.specs.Lists.{IsListed, Lists}
-use Rattle.equiv_class.specs.Joins.{IsAbsorbed, IsMet, unit_a, unit_b}
-use Rattle.equiv_class.specs.Joining.{IsTied}
+use Rattle.ftn_base.specs.Storage.{IsWithin}
+use Rattle.equiv_class.specs.steps.Lists.{IsListed, Lists}
+use Rattle.equiv_class.specs.steps.Joins.{IsAbsorbed, IsMet, unit_a, unit_b}
+use Rattle.equiv_class.specs.steps.Joining.{IsTied}
 use Rattle.equiv_class.proofs.Seats.{HasStayed, WasMoved, moved, seat, stayed_a}
 
 abbrev pub more_ties : List Tie → Tie → List Tie

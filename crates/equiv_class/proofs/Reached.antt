@@ -5,9 +5,9 @@ use Rattle.std.proofs.lemmas.List.Elements.{All-contains, All-map}
 use Rattle.ftn_base.specs.declared.entity.Tie.{Tie}
 use Rattle.ftn_base.specs.Storage.{Thing, Link, object, block, IsContradicted, Leads, tie_link, tie_links}
 use Rattle.ftn_base.proofs.WalkLaws.{leads_kept}
-use Rattle.equiv_class.specs.Sound.{IsWithin}
-use Rattle.equiv_class.specs.Joins.{IsMet}
-use Rattle.equiv_class.specs.Lists.{Lists}
+use Rattle.ftn_base.specs.Storage.{IsWithin}
+use Rattle.equiv_class.specs.steps.Joins.{IsMet}
+use Rattle.equiv_class.specs.steps.Lists.{Lists}
 
 -- what a fact of each tie is of each link
 on_links : (P : Link → Type 0) (ties : List Tie) → ((k : ℕ) (d : Tie) → k < length ties → P (tie_link (get_or ties k d))) → (link : Link) → Contains (tie_links ties) link → P link

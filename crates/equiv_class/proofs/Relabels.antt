@@ -3,7 +3,7 @@ use Rattle.std.proofs.Common.{◌≡◌, ◌≢◌, ℕ, ◌+◌, ◌-◌, ◌<�
 use Rattle.std.proofs.lemmas.Bool.{cases_eq}
 use Rattle.std.proofs.lemmas.List.{get_or-map, get_or-set_other, get_or-set_same, get_or-take, get_or_default, map-set, take_more, take_at, length-map}
 use Rattle.std.proofs.lemmas.List.Elements.{Contains-append_left, Contains-push, Contains-push_cases}
-use Rattle.equiv_class.specs.Lists.{IsMoved, member_lists, members_of}
+use Rattle.equiv_class.specs.steps.Lists.{IsMoved, member_lists, members_of}
 
 -- an entry is not among the entries before it
 fresh : (xs : List ℕ) (i : ℕ) → i < length xs → AllPairs (λ earlier later. earlier ≢ later) xs → Contains (take i xs) (get_or xs i 0) → ⊥

@@ -2,8 +2,8 @@
 use Rattle.std.proofs.Common.{◌≡◌, ◌≢◌, ℕ, ◌+◌, ◌<◌, length, get_or, Contains, ◌⊎◌, inl, inr, sym, ◌∙◌, subst}
 use Rattle.std.proofs.lemmas.Bool.{cases_eq}
 use Rattle.ftn_base.specs.declared.entity.Tie.{Tie}
-use Rattle.equiv_class.specs.Lists.{IsListed, Lists, members_of}
-use Rattle.equiv_class.specs.Joins.{IsAbsorbed, label_a, label_b, unit_a, unit_b}
+use Rattle.equiv_class.specs.steps.Lists.{IsListed, Lists, members_of}
+use Rattle.equiv_class.specs.steps.Joins.{IsAbsorbed, label_a, label_b, unit_a, unit_b}
 
 -- the object was moved, with its sequence
 pub record WasMoved (s : Lists) (tie : Tie) (new : Lists) (v : ℕ) : Type 0 where

@@ -8,11 +8,11 @@ use Rattle.std.proofs.lemmas.List.Sums.{get_or-le-sum_by, sum_by-le}
 use Rattle.ftn_base.specs.declared.entity.Tie.{Tie}
 use Rattle.ftn_base.specs.Storage.{Link, object, Leads, tie_link, tie_links}
 use Rattle.ftn_base.proofs.WalkLaws.{leads_backward, leads_by, leads_forward, leads_more, leads_nowhere, leads_through}
+use Rattle.ftn_base.specs.Storage.{IsWithin}
 use Rattle.equiv_class.specs.declared.sequences.TheConstants.{MIDDLE}
-use Rattle.equiv_class.specs.Sound.{IsWithin}
-use Rattle.equiv_class.specs.Lists.{IsAlone, IsReady, Lists, members_of}
-use Rattle.equiv_class.specs.Joins.{IsAbsorbed, IsMerged, IsMet, Joins, turned}
-use Rattle.equiv_class.specs.Joining.{IsJoined, IsSpanned, IsTied}
+use Rattle.equiv_class.specs.steps.Lists.{IsAlone, IsReady, Lists, members_of}
+use Rattle.equiv_class.specs.steps.Joins.{IsAbsorbed, IsMerged, IsMet, Joins, turned}
+use Rattle.equiv_class.specs.steps.Joining.{IsJoined, IsSpanned, IsTied}
 use Rattle.equiv_class.proofs.MergedLists.{listed_next}
 use Rattle.equiv_class.proofs.MergedSpans.{spanned_next}
 use Rattle.equiv_class.proofs.MergedTies.{link_here, links_more, more_ties, tied_next}

@@ -1,6 +1,3 @@
 pub mod Sound
 pub mod Conflicts
-pub mod Lists
-pub mod Joins
-pub mod Joining
-pub mod Numbers
+pub mod steps

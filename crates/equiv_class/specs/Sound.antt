@@ -1,14 +1,6 @@
 -- Classes of objects that walks join, offsets in them, and their sizes (Fortran 90, 5.5.1, 14.6.3).
 use Rattle.std.specs.Prelude.{ℕ, ◌+◌, ◌<◌, ◌≤◌, ◌≡◌, ◌↔◌, pos, ◌+ℤ◌, ℤ, List, length, slice_index}
-use Rattle.ftn_base.specs.declared.entity.Tie.{Tie}
 use Rattle.ftn_base.specs.Storage.{Link, object, Leads, AreJoined, AreOneUnit}
-
--- the tie names units of objects that are there
-pub record IsWithin (sizes : List ℕ) (tie : Tie) : Type 0 where
-  pub a : tie.a < length sizes
-  pub b : tie.b < length sizes
-  pub at_a : tie.at_a < slice_index sizes tie.a
-  pub at_b : tie.at_b < slice_index sizes tie.b
 
 -- objects have one class exactly where a walk joins them; before the first object of a class stands an object of
 -- each class of a lesser number

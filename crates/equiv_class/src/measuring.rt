@@ -1,7 +1,7 @@
 //! Offsets of objects in their sequences, and sizes of sequences.
 
 ghost use Rattle.std.specs.Prelude.{◌≡◌, ◌+◌, ◌<◌, ◌≤◌, ◌^◌, ℕ, length, All, IfOk, slice_index};
-ghost use Rattle.equiv_class.specs.Lists.{IsMeasured, begin_of, lists_of, reach_of};
+ghost use Rattle.equiv_class.specs.steps.Lists.{IsMeasured, begin_of, lists_of, reach_of};
 
 use crate::sequences::{MIDDLE, Sequences};
 use ftn_base::NoMemory;

@@ -1,7 +1,7 @@
 //! The objects of one sequence moved into another.
 
 ghost use Rattle.std.specs.Prelude.{◌≡◌, ◌≢◌, ◌+◌, ◌-◌, ◌<◌, ◌≤◌, ◌^◌, ◌++◌, max, [], length, All, AllPairs, IfOk, OnOk, slice_index, slice_set};
-ghost use Rattle.equiv_class.specs.Lists.{IsMoved, member_lists, members_of};
+ghost use Rattle.equiv_class.specs.steps.Lists.{IsMoved, member_lists, members_of};
 
 use ftn_base::NoMemory;
 use std::alloc::Global;

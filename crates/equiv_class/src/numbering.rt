@@ -1,7 +1,7 @@
 //! Numbers of sequences, by their first object.
 
 ghost use Rattle.std.specs.Prelude.{◌<◌, ◌^◌, length, All, IfOk};
-ghost use Rattle.equiv_class.specs.Numbers.{IsCounted, IsNumbered};
+ghost use Rattle.equiv_class.specs.steps.Numbers.{IsCounted, IsNumbered};
 
 use ftn_base::NoMemory;
 use std::alloc::Global;

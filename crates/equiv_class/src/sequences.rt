@@ -1,8 +1,8 @@
 //! Objects in sequences of storage units, while ties are taken in one after another.
 
 ghost use Rattle.std.specs.Prelude.{◌≡◌, ◌≢◌, ◌+◌, ◌<◌, ◌≤◌, ◌^◌, length, IfOk, OnOk, slice_index};
-ghost use Rattle.equiv_class.specs.Lists.{IsListed, IsReady, lists_of};
-ghost use Rattle.equiv_class.specs.Joins.{Finds, IsAbsorbed, IsMerged, Joins, label_a, label_b};
+ghost use Rattle.equiv_class.specs.steps.Lists.{IsListed, IsReady, lists_of};
+ghost use Rattle.equiv_class.specs.steps.Joins.{Finds, IsAbsorbed, IsMerged, Joins, label_a, label_b};
 
 use crate::moving::{hand_over, relabel, widen};
 use ftn_base::{NoMemory, Tie};

@@ -2,10 +2,11 @@
 
 ghost use Rattle.std.specs.Prelude.{◌<◌, ◌^◌, length, sum, All, IfErr, IfOk, IsOk};
 ghost use Rattle.ftn_base.specs.Storage.{IsContradicted, tie_links};
-ghost use Rattle.equiv_class.specs.Sound.{IsWithin, IsSound};
+ghost use Rattle.ftn_base.specs.Storage.{IsWithin};
+ghost use Rattle.equiv_class.specs.Sound.{IsSound};
 ghost use Rattle.equiv_class.specs.Conflicts.{IsTrueFault};
-ghost use Rattle.equiv_class.specs.Lists.{lists_of};
-ghost use Rattle.equiv_class.specs.Joining.{IsJoined};
+ghost use Rattle.equiv_class.specs.steps.Lists.{lists_of};
+ghost use Rattle.equiv_class.specs.steps.Joining.{IsJoined};
 
 use crate::answer::Classes;
 use crate::fault::TieFault;

@@ -1,7 +1,7 @@
 //! Objects before any tie is taken in.
 
 ghost use Rattle.std.specs.Prelude.{◌≡◌, ◌<◌, ◌^◌, ℕ, [], ◌∷◌, length, slice_index, IfOk};
-ghost use Rattle.equiv_class.specs.Lists.{IsAlone, lists_of, member_lists, members_of};
+ghost use Rattle.equiv_class.specs.steps.Lists.{IsAlone, lists_of, member_lists, members_of};
 
 use crate::sequences::{MIDDLE, Sequences};
 use ftn_base::NoMemory;

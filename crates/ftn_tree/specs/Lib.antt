@@ -28,3 +28,5 @@ pub mod Regions
 pub mod Nesting
 pub mod NestFaults
 pub mod FileFaults
+pub mod ListItems
+pub mod ListRecords

@@ -1,4 +1,7 @@
 //! Projects of any size, made from a number, to test with.
+//!
+//! `make` gives exactly the files of a seed. To be trusted is `Files`. That they are a project without a fault isn't
+//! said here.
 #![tactic(auto)]
 
 mod project;

@@ -7,7 +7,7 @@ use Rattle.std.proofs.lemmas.List.{ext_get_or, get_or-set_same, get_or-set_other
 use Rattle.std.proofs.lemmas.List.FromFn.{length-map-range_with_len, get_or-map-range_with_len, map-range_with_len_more}
 use Rattle.ftn_base.specs.Letters.{is_within}
 use Rattle.ftn_base.specs.declared.entity.Letter.TheVariants.{Nothing}
-use Rattle.implicit_type.specs.Letters.{Entry, alphabet, entry_of, type_of, with_entry, inner}
+use Rattle.ftn_base.specs.ImplicitLetters.{Entry, alphabet, entry_of, type_of, with_entry, inner}
 
 module _ {X : Type 0} (f g : ℕ → X) where
   -- two functions that agree at the numbers of a range

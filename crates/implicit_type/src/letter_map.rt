@@ -1,15 +1,11 @@
 //! The implicit type of each letter in a scoping unit (Fortran 90, 5.3).
 
 ghost use Rattle.std.specs.Prelude.{◌≡◌, ◌≤◌, ◌-◌};
-ghost use Rattle.implicit_type.specs.Letters as spec;
+ghost use Rattle.ftn_base.specs.ImplicitLetters as spec;
 
 use crate::rows::{first_given, number_of, put};
-use ftn_base::{Letter, Ty};
+use ftn_base::{Letter, Twice, Ty};
 use std::marker::Model;
-
-/// The first letter of a range that a range of the same scoping unit gave before (5.3).
-#[derive(Clone, Copy)]
-pub struct Twice(pub u8);
 
 /// The implicit type of each letter, and whether a range of the scoping unit gave it.
 /// Contracts see the list of these pairs, one for each letter from A to Z.
@@ -19,7 +15,7 @@ pub struct LetterMap {
 }
 
 impl Model for LetterMap {
-    ghost use Rattle.implicit_type.specs.Letters.{Entry};
+    ghost use Rattle.ftn_base.specs.ImplicitLetters.{Entry};
     ghost use Rattle.std.specs.Prelude.{List};
 
     ghost Value = { List Entry };
@@ -29,7 +25,7 @@ impl Model for LetterMap {
 
 impl LetterMap {
     /// The map of a scoping unit without a host and without IMPLICIT: I to N are integer, all others real.
-    #[tactic(auto, unfolding(crate::specs::Letters::alphabet))]
+    #[tactic(auto, unfolding(ftn_base::specs::ImplicitLetters::alphabet))]
     pub fn standard() -> LetterMap
         ensures { result ≡ spec.standard }
     {
@@ -44,7 +40,7 @@ impl LetterMap {
     }
 
     /// The map of a scoping unit with IMPLICIT NONE: no letter has a type.
-    #[tactic(auto, unfolding(crate::specs::Letters::alphabet))]
+    #[tactic(auto, unfolding(ftn_base::specs::ImplicitLetters::alphabet))]
     pub fn none() -> LetterMap
         ensures { result ≡ spec.none }
     {

@@ -1,7 +1,7 @@
 //! The rows of a letter map.
 
 ghost use Rattle.std.specs.Prelude.{◌≡◌, ◌≤◌, ◌-◌, ◌+◌, length};
-ghost use Rattle.implicit_type.specs.Letters as spec;
+ghost use Rattle.ftn_base.specs.ImplicitLetters as spec;
 
 use ftn_base::Letter;
 

@@ -1,26 +1,28 @@
 -- What `parse` reads as an integer of 32 bits is what an integer item says.
 use Rattle.std.proofs.Common.{◌≡◌, ℕ, zero, suc, ◌^◌, ◌<◌, Bool, true, false, cond, ◌&&◌, ◌==◌, if◌then◌else◌, ℤ, pos, negsuc, FitsSigned, List, [], ◌∷◌, drop, Option, Some, None, Result, Ok, Err, refl, sym, ap, ◌∙◌, arith}
-use Rattle.std.proofs.lemmas.Bool.{and_parts}
+use Rattle.std.proofs.lemmas.Bool.{and_parts, and_from}
 use Rattle.std.proofs.lemmas.Bool.Decides.{nat_tests}
 use Rattle.std.proofs.lemmas.Fmt.{IsAscii-from_digits, parse-signed_decimal}
 use Rattle.std.proofs.lemmas.Str.{IsUtf8-from_ascii}
 use Rattle.std.proofs.lemmas.Str.Parse.{IsNumeralModel, numerals_by_value, tells_all_ascii_digits}
+use Rattle.std.proofs.lemmas.Str.Ascii.{IsAscii-cons}
 use Rattle.std.specs.Fmt.{signed_decimal}
 use Rattle.std.specs.Int.{w32}
 use Rattle.std.specs.Result.{result_ok, OkIff}
 use Rattle.std.specs.Str.{IsAscii, IsUtf8, all_ascii_digits}
 use Rattle.std.specs.Str.Parse.{AllDigits, IsNumeral, ParsesSigned, digits_value, signed_digits_value, without_leading_sign}
 use lib.Signed.{mag}
-use Rattle.list_io.specs.Items.{fits, is_some, is_signed_numeral, whole_of}
+use Rattle.ftn_base.specs.Arithmetic.{is_integer}
+use Rattle.ftn_tree.specs.ListItems.{is_some, is_signed_numeral, whole_of}
 
 own : IsNumeralModel (λ digits. all_ascii_digits digits ≡ true) (digits_value 10)
 own = numerals_by_value _ tells_all_ascii_digits
 
-pub fits-from_FitsSigned : (z : ℤ) → FitsSigned w32 z → fits z ≡ true
+pub fits-from_FitsSigned : (z : ℤ) → FitsSigned w32 z → is_integer z ≡ true
 fits-from_FitsSigned (pos n) h = let small : n < 2 ^ 31 = h.sfits in grind (arith, nat_tests)
 fits-from_FitsSigned (negsuc n) h = let small : n < 2 ^ 31 = h.sfits in grind (arith, nat_tests)
 
-pub FitsSigned-from_fits : (z : ℤ) → fits z ≡ true → FitsSigned w32 z
+pub FitsSigned-from_fits : (z : ℤ) → is_integer z ≡ true → FitsSigned w32 z
 FitsSigned-from_fits (pos n) e = let small : n < 2 ^ 31 = grind (arith, nat_tests) in record { sfits = small }
 FitsSigned-from_fits (negsuc n) e = let small : n < 2 ^ 31 = grind (arith, nat_tests) in record { sfits = small }
 
@@ -33,20 +35,17 @@ told_is_numeral [] e = cc
 told_is_numeral (c ∷ cs) e = (omega arith, own.to (c ∷ cs) e)
 
 abbrev is_whole : List ℕ → Bool
-is_whole bytes = is_signed_numeral bytes && fits (signed_digits_value 10 bytes)
+is_whole bytes = is_signed_numeral bytes && is_integer (signed_digits_value 10 bytes)
 
 abbrev IsWhole : List ℕ → Type 0
 IsWhole bytes = IsNumeral 10 (without_leading_sign bytes) × FitsSigned w32 (signed_digits_value 10 bytes)
 
-both_true : (a b : Bool) → a ≡ true → b ≡ true → (a && b) ≡ true
-both_true a b p q = rw (p, q) refl
-
 is_whole-from_IsWhole : (bytes : List ℕ) → IsWhole bytes → is_whole bytes ≡ true
-is_whole-from_IsWhole bytes h = both_true _ _ (numeral_is_told (without_leading_sign bytes) h.0) (fits-from_FitsSigned (signed_digits_value 10 bytes) h.1)
+is_whole-from_IsWhole bytes h = and_from _ _ (numeral_is_told (without_leading_sign bytes) h.0) (fits-from_FitsSigned (signed_digits_value 10 bytes) h.1)
 
 IsWhole-from_is_whole : (bytes : List ℕ) → is_whole bytes ≡ true → IsWhole bytes
 IsWhole-from_is_whole bytes e =
-    let parts = and_parts (is_signed_numeral bytes) (fits (signed_digits_value 10 bytes)) e in
+    let parts = and_parts (is_signed_numeral bytes) (is_integer (signed_digits_value 10 bytes)) e in
     (told_is_numeral (without_leading_sign bytes) parts.0, FitsSigned-from_fits (signed_digits_value 10 bytes) parts.1)
 
 taken : (b : Bool) (value z : ℤ) → b ≡ true → z ≡ value → ◌≡◌ {A = Option ℤ} (Some z) (if b then Some value else None)
@@ -63,13 +62,9 @@ whole_of_parsed bytes (Err e) h = refused (is_whole bytes) (signed_digits_value 
 
 -- a text whose bytes are no text at all is no numeral
 
-ascii_more : (c : ℕ) (cs : List ℕ) → c < 128 → IsAscii cs → IsAscii (c ∷ cs)
-ascii_more c cs small h zero = small
-ascii_more c cs small h (suc i) = h i
-
 ascii_by_sign : (minus plus : Bool) (c : ℕ) (cs : List ℕ) → (minus ≡ true → c < 128) → (plus ≡ true → c < 128) → AllDigits 10 (cond minus cs (drop (cond plus 1 0) (c ∷ cs))) → IsAscii (c ∷ cs)
-ascii_by_sign true plus c cs m p digits = ascii_more c cs (m refl) (IsAscii-from_digits cs digits)
-ascii_by_sign false true c cs m p digits = ascii_more c cs (p refl) (IsAscii-from_digits cs digits)
+ascii_by_sign true plus c cs m p digits = IsAscii-cons c cs (m refl) (IsAscii-from_digits cs digits)
+ascii_by_sign false true c cs m p digits = IsAscii-cons c cs (p refl) (IsAscii-from_digits cs digits)
 ascii_by_sign false false c cs m p digits = IsAscii-from_digits (c ∷ cs) digits
 
 sign_is_small : (c sign : ℕ) → sign < 128 → (c == sign) ≡ true → c < 128
@@ -95,11 +90,11 @@ answers false P value to from = λ p. cc (from p)
 parsed : (bytes : List ℕ) → ParsesSigned w32 10 bytes (as_result (is_whole bytes) (signed_digits_value 10 bytes))
 parsed bytes = answers (is_whole bytes) (IsWhole bytes) (signed_digits_value 10 bytes) (IsWhole-from_is_whole bytes) (is_whole-from_IsWhole bytes)
 
-magnitude : (z : ℤ) → fits z ≡ true → mag z < 2 ^ 63
+magnitude : (z : ℤ) → is_integer z ≡ true → mag z < 2 ^ 63
 magnitude (pos n) e = let small : n < 2 ^ 31 = grind (arith, nat_tests) in omega arith
 magnitude (negsuc n) e = let small : n < 2 ^ 31 = grind (arith, nat_tests) in omega arith
 
-pub whole_of_signed_decimal : (z : ℤ) → fits z ≡ true → whole_of (signed_decimal z) ≡ Some z
+pub whole_of_signed_decimal : (z : ℤ) → is_integer z ≡ true → whole_of (signed_decimal z) ≡ Some z
 whole_of_signed_decimal z e =
     let bytes : List ℕ = signed_decimal z in
     let r : Result ℤ (Unit {0}) = as_result (is_whole bytes) (signed_digits_value 10 bytes) in

@@ -10,11 +10,12 @@ use Rattle.std.specs.List.{list_all}
 use Rattle.std.specs.Str.Parse.{AllDigits, IsNumeral}
 use Rattle.ftn_base.specs.declared.entity.Ty.{Ty}
 use Rattle.ftn_base.specs.declared.entity.Ty.TheVariants.{Integer, Logical, Character}
+use Rattle.ftn_base.specs.Arithmetic.{is_integer}
 use Rattle.ftn_tree.specs.declared.value.Value.{Value}
 use Rattle.ftn_tree.specs.declared.value.Value.TheVariants.{Whole, Truth, Chars}
-use Rattle.list_io.specs.Items.{fits, is_item_byte, is_run, item_of}
+use Rattle.ftn_tree.specs.ListItems.{is_item_byte, is_run, item_of}
+use Rattle.ftn_tree.specs.ListRecords.{record_of, text_of}
 use Rattle.list_io.specs.ReadBack.{between, is_one_item}
-use Rattle.list_io.specs.Records.{record_of, text_of}
 use Rattle.list_io.proofs.Numbers.{whole_of_signed_decimal}
 
 front : (text : List ℕ) → take (length (32 ∷ (text ++ 10 ∷ [])) - 2) (text ++ 10 ∷ []) ≡ text
@@ -36,7 +37,7 @@ numeral_is_run : (digits : List ℕ) → IsNumeral 10 digits → is_run digits �
 numeral_is_run [] h = absurd (omega (arith, h.0))
 numeral_is_run (c ∷ cs) h = digits_are_item_bytes (c ∷ cs) h.1
 
-signed_decimal_is_run : (z : ℤ) → fits z ≡ true → is_run (signed_decimal z) ≡ true
+signed_decimal_is_run : (z : ℤ) → is_integer z ≡ true → is_run (signed_decimal z) ≡ true
 signed_decimal_is_run (pos n) e =
     let small : n < 2 ^ 31 = grind (arith, nat_tests) in
     numeral_is_run _ (decimal_is_IsNumeral n (omega arith)).0

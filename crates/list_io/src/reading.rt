@@ -2,7 +2,7 @@
 
 ghost use Rattle.std.specs.Prelude.{◌≡◌, ◌↔◌, None, Some, IfOk, IsErrOf, true};
 ghost use Rattle.std.specs.List.{list_all};
-ghost use Rattle.list_io.specs.Items.{is_character, is_item_byte as is_item_byte_of, is_run as is_run_of, item_of, truth_of, truth_of_letter, whole_of};
+ghost use Rattle.ftn_tree.specs.ListItems.{is_character, is_item_byte as is_item_byte_of, is_run as is_run_of, item_of, truth_of, truth_of_letter, whole_of};
 ghost use Rattle.list_io.specs.ReadBack.{ItemsAreReadBack};
 
 use crate::fault::ItemFault;

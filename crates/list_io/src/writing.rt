@@ -1,7 +1,7 @@
 //! Records, as PRINT and WRITE make them.
 
 ghost use Rattle.std.specs.Prelude.{◌≡◌, ◌++◌, IfOk, OnOk};
-ghost use Rattle.list_io.specs.Records.{record_of, text_of, texts_of};
+ghost use Rattle.ftn_tree.specs.ListRecords.{record_of, text_of, texts_of};
 
 use ftn_base::{Bytes, NoMemory};
 use ftn_tree::Value;

@@ -2,9 +2,9 @@
 use Rattle.std.proofs.Common.{◌≡◌, ℕ, ◌<◌, List, [], ◌∷◌, ◌++◌, length, get_or, take, All, Contains, sym, ◌∙◌, subst, arith, length-take}
 use Rattle.std.proofs.lemmas.List.{get_or-take, get_or_default}
 use Rattle.std.proofs.lemmas.List.Elements.{All-contains}
-use Rattle.module_graph.specs.Uses.{Uses, used_by}
-use Rattle.module_graph.specs.Cycles.{IsChain, IsOnCycle}
-use Rattle.module_graph.specs.Orders.{IsGreedy}
+use Rattle.ftn_base.specs.ModuleUses.{Uses, used_by}
+use Rattle.ftn_base.specs.ModuleCycles.{IsChain, IsOnCycle}
+use Rattle.ftn_base.specs.ModuleOrders.{IsGreedy}
 use Rattle.module_graph.proofs.Listing.{user_known}
 
 pub chain_more : (uses : List (List ℕ)) (first : ℕ) (between : List ℕ) (last next : ℕ) → IsChain uses first between last → Uses uses last next → IsChain uses first (between ++ last ∷ []) next

@@ -7,10 +7,10 @@ use Rattle.std.proofs.lemmas.List.Elements.{All-cons, All-contains, All-nil}
 use Rattle.std.proofs.lemmas.Map.Keys.{IsDistinct-cons}
 use Rattle.std.proofs.lemmas.Map.Steps.{length-le_from_distinct_below}
 use Rattle.std.proofs.lemmas.Map.Views.{Contains-from_any}
-use Rattle.module_graph.specs.Uses.{AreKnown, Uses, used_by}
-use Rattle.module_graph.specs.Cycles.{IsChain, IsOnCycle}
-use Rattle.module_graph.specs.Orders.{IsOrder}
-use Rattle.module_graph.specs.Marks.{IsFree, IsMarked, IsStuck, IsUnmarked}
+use Rattle.ftn_base.specs.ModuleUses.{AreKnown, Uses, used_by}
+use Rattle.ftn_base.specs.ModuleCycles.{IsChain, IsOnCycle}
+use Rattle.ftn_base.specs.ModuleOrders.{IsOrder}
+use Rattle.module_graph.specs.steps.Marks.{IsFree, IsMarked, IsStuck, IsUnmarked}
 use Rattle.module_graph.proofs.Chains.{chain_more}
 use Rattle.module_graph.proofs.Listing.{used_known}
 use Rattle.module_graph.proofs.Marking.{all_or_one, front_cases, none_in}

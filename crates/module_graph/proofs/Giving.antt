@@ -4,9 +4,9 @@ use Rattle.std.proofs.lemmas.Bool.{cases_eq, cases_lt, ne_eqb}
 use Rattle.std.proofs.lemmas.List.{get_or_default, get_or-replicate, get_or-set_other, get_or-set_same, get_or_past, length-replicate}
 use Rattle.std.proofs.lemmas.List.Elements.{All-contains, All-more, All-weaker, Contains-append_left, Contains-push, Contains-push_cases}
 use Rattle.std.proofs.lemmas.List.Sums.{sum_by-set}
-use Rattle.module_graph.specs.Uses.{Uses, used_by}
-use Rattle.module_graph.specs.Cycles.{IsChain, IsOnCycle}
-use Rattle.module_graph.specs.Groups.{HasNumber, IsGiving, NeverFalls, without_number}
+use Rattle.ftn_base.specs.ModuleUses.{Uses, used_by}
+use Rattle.ftn_base.specs.ModuleCycles.{IsChain, IsOnCycle}
+use Rattle.module_graph.specs.steps.Groups.{HasNumber, IsGiving, NeverFalls, without_number}
 use Rattle.module_graph.proofs.Marking.{front_cases, in_front, in_rest, none_in}
 
 -- ---- a number more

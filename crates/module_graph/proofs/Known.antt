@@ -1,7 +1,8 @@
 -- Lists that were tested or filled one after another.
 use Rattle.std.proofs.Common.{◌≡◌, ℕ, ◌+◌, ◌<◌, ◌≤◌, List, Vec, length, get_or, take, take_all, All, refl, sym, ◌∙◌, subst}
 use Rattle.std.proofs.lemmas.List.Elements.{All-map, All-more}
-use Rattle.module_graph.specs.Uses.{AreBelow, AreKnown, used_lists}
+use Rattle.ftn_base.specs.ModuleUses.{AreKnown}
+use Rattle.module_graph.specs.Uses.{AreBelow, used_lists}
 use Rattle.module_graph.proofs.Listing.{lists_length}
 
 pub below_next : (count : ℕ) (list : List ℕ) (i : ℕ) → i < length list → get_or list i 0 < count → All (λ used. used < count) (take i list) → All (λ used. used < count) (take (i + 1) list)

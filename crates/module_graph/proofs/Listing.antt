@@ -3,7 +3,8 @@ use Rattle.std.proofs.Common.{◌≡◌, ℕ, ◌<◌, List, [], Vec, length, ge
 use Rattle.std.proofs.lemmas.Bool.{cases_lt}
 use Rattle.std.proofs.lemmas.List.{get_or-map, get_or_past, length-map}
 use Rattle.std.proofs.lemmas.List.Elements.{All-contains}
-use Rattle.module_graph.specs.Uses.{AreKnown, Uses, used_by, used_lists}
+use Rattle.ftn_base.specs.ModuleUses.{AreKnown, Uses, used_by}
+use Rattle.module_graph.specs.Uses.{used_lists}
 
 pub lists_length : {A : Type 0} (lists : List (Vec ℕ A)) → length (used_lists lists) ≡ length lists
 lists_length lists = length-map lists (λ list. list.items)

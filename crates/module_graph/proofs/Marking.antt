@@ -4,7 +4,7 @@ use Rattle.std.proofs.lemmas.Bool.{cases_Bool, cases_eq, cases_lt, true≢false}
 use Rattle.std.proofs.lemmas.List.{get_or-replicate, get_or-set_other, get_or-set_same, get_or_past, length-replicate}
 use Rattle.std.proofs.lemmas.List.Elements.{All-cons, All-more, All-nil, Contains-append_cases, Contains-append_left, Contains-append_right, Contains-push, Contains-push_cases}
 use Rattle.std.proofs.lemmas.List.Sums.{sum_by-set}
-use Rattle.module_graph.specs.Marks.{IsMarked, IsUnmarked, unmarked}
+use Rattle.module_graph.specs.steps.Marks.{IsMarked, IsUnmarked, unmarked}
 
 pub not_both : (marks : List Bool) (number : ℕ) → IsMarked marks number → IsUnmarked marks number → ⊥
 not_both marks number mark bare = true≢false (sym mark ∙ bare)

@@ -3,9 +3,9 @@ use Rattle.std.proofs.Common.{◌≡◌, ℕ, ◌<◌, ◌≤◌, Bool, true, fa
 use Rattle.std.proofs.lemmas.Bool.{cases_eq, cases_lt}
 use Rattle.std.proofs.lemmas.List.{get_or_append_left, get_or_push, length_push, length-replicate, take-append-le, take_at}
 use Rattle.std.proofs.lemmas.List.Elements.{All-weaker, Contains-append_left, Contains-push, Contains-push_cases}
-use Rattle.module_graph.specs.Uses.{used_by}
-use Rattle.module_graph.specs.Orders.{IsGreedy, IsNext, IsReady}
-use Rattle.module_graph.specs.Marks.{IsFree, IsMarked, IsPlaced}
+use Rattle.ftn_base.specs.ModuleUses.{used_by}
+use Rattle.ftn_base.specs.ModuleOrders.{IsGreedy, IsNext, IsReady}
+use Rattle.module_graph.specs.steps.Marks.{IsFree, IsMarked, IsPlaced}
 use Rattle.module_graph.proofs.Marking.{all_unmarked, mark_here, mark_more, mark_other, no_mark, not_both}
 
 module _ (uses : List (List ℕ)) (list : List ℕ) (marks : List Bool) (placed : IsPlaced uses list marks) where

@@ -4,9 +4,9 @@ use Rattle.std.proofs.lemmas.Bool.{cases_eq, cases_lt}
 use Rattle.std.proofs.lemmas.List.{get_or-set_other, get_or-take, get_or_append_left, get_or_default, get_or_push, length_push, length-replicate}
 use Rattle.std.proofs.lemmas.List.Elements.{All-cons, All-contains, All-nil, All-push, All-take, All-weaker, Contains-append_left, Contains-push}
 use Rattle.std.proofs.lemmas.List.Quantifiers.{all_pairs_push}
-use Rattle.module_graph.specs.Uses.{Uses, used_by}
-use Rattle.module_graph.specs.Cycles.{IsChain, IsLeastCycle, IsOnCycle, IsRing}
-use Rattle.module_graph.specs.Marks.{IsMarked, IsSearch, IsUnmarked, IsWayBack}
+use Rattle.ftn_base.specs.ModuleUses.{Uses, used_by}
+use Rattle.ftn_base.specs.ModuleCycles.{IsChain, IsLeastCycle, IsOnCycle, IsRing}
+use Rattle.module_graph.specs.steps.Marks.{IsMarked, IsSearch, IsUnmarked, IsWayBack}
 use Rattle.module_graph.proofs.Chains.{in_take}
 use Rattle.module_graph.proofs.Marking.{all_unmarked, mark_here, mark_more, mark_other, not_both}
 

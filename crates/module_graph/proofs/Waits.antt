@@ -8,10 +8,10 @@ use Rattle.std.proofs.lemmas.List.{get_or-map, get_or-set_other, get_or-set_same
 use Rattle.std.proofs.lemmas.List.Elements.{All-contains, All-get_or, All-map, All-more, All-nil, All-push, All-weaker, Contains-append_cases, Contains-append_left, Contains-get_or, Contains-push, Contains-push_cases}
 use Rattle.std.proofs.lemmas.Map.Lookups.{exact_unsigned}
 use Rattle.std.proofs.lemmas.Map.Views.{btree_set_contains_iff}
-use Rattle.module_graph.specs.Uses.{Uses, used_by}
-use Rattle.module_graph.specs.Orders.{IsNext}
-use Rattle.module_graph.specs.Marks.{IsEntry, IsFree, IsMarked, IsPlaced, IsStuck, IsUnmarked, unmarked}
-use Rattle.module_graph.specs.Waiting.{AreCovered, IsCovered, IsGoing, IsSettled, IsSound, IsTaken, IsWaiter, waiter_lists, waiters_on}
+use Rattle.ftn_base.specs.ModuleUses.{Uses, used_by}
+use Rattle.ftn_base.specs.ModuleOrders.{IsNext}
+use Rattle.module_graph.specs.steps.Marks.{IsEntry, IsFree, IsMarked, IsPlaced, IsStuck, IsUnmarked, unmarked}
+use Rattle.module_graph.specs.steps.Waiting.{AreCovered, IsCovered, IsGoing, IsSettled, IsSound, IsTaken, IsWaiter, waiter_lists, waiters_on}
 use Rattle.module_graph.specs.declared.entries.Entry.{Entry}
 use Rattle.module_graph.proofs.Marking.{in_front, in_rest, mark_here, mark_more, no_mark, not_both, unmarked_less}
 use Rattle.module_graph.proofs.Placed.{next_of_free, none_placed, placed_more, ready_is_free}

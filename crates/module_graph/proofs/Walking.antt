@@ -3,9 +3,9 @@ use Rattle.std.proofs.Common.{◌≡◌, ℕ, ◌-◌, ◌<◌, ◌≢◌, Bool,
 use Rattle.std.proofs.lemmas.Bool.{cases_eq}
 use Rattle.std.proofs.lemmas.List.{get_or-map, length-map, length_push, map-append, map-set, set-get_or, take-map, take_at}
 use Rattle.std.proofs.lemmas.List.Elements.{All-nil, All-push, All-set, All-weaker, Contains-get_or}
-use Rattle.module_graph.specs.Uses.{Uses, used_by}
-use Rattle.module_graph.specs.Marks.{IsEntry, IsMarked, IsSearch, IsUnmarked, IsWayBack}
-use Rattle.module_graph.specs.Walks.{GoesBack, GoesOn, IsStep, last_of, modules_of}
+use Rattle.ftn_base.specs.ModuleUses.{Uses, used_by}
+use Rattle.module_graph.specs.steps.Marks.{IsEntry, IsMarked, IsSearch, IsUnmarked, IsWayBack}
+use Rattle.module_graph.specs.steps.Walks.{GoesBack, GoesOn, IsStep, last_of, modules_of}
 use Rattle.module_graph.specs.declared.entries.Entry.{Entry}
 use Rattle.module_graph.proofs.Marking.{mark_here, mark_more, mark_other, not_both}
 use Rattle.module_graph.proofs.Searching as searching

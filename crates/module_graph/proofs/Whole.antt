@@ -1,8 +1,8 @@
 -- Where each module has a mark, the list is an order, and no module lies on a cycle.
 use Rattle.std.proofs.Common.{◌≡◌, ℕ, ◌<◌, Bool, true, false, List, length, All, sym, subst}
-use Rattle.module_graph.specs.Cycles.{IsOnCycle}
-use Rattle.module_graph.specs.Orders.{IsOrder}
-use Rattle.module_graph.specs.Marks.{IsMarked, IsStuck}
+use Rattle.ftn_base.specs.ModuleCycles.{IsOnCycle}
+use Rattle.ftn_base.specs.ModuleOrders.{IsOrder}
+use Rattle.module_graph.specs.steps.Marks.{IsMarked, IsStuck}
 use Rattle.module_graph.proofs.Chains.{on_cycle_known, on_no_cycle}
 
 module _ (uses : List (List ℕ)) (list : List ℕ) (marks : List Bool) (stuck : IsStuck uses list marks) (all : All (λ mark. mark ≡ true) marks) where

@@ -1,7 +1,3 @@
 pub mod Uses
-pub mod Orders
-pub mod Cycles
-pub mod Marks
-pub mod Waiting
-pub mod Walks
-pub mod Groups
+pub mod Faults
+pub mod steps

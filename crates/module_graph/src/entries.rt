@@ -1,8 +1,9 @@
 //! The lists of modules, and entries of them.
 
 ghost use Rattle.std.specs.Prelude.{◌≡◌, ◌<◌, [], length, take, All, IfNone, IfOk, IfSome, slice_index};
-ghost use Rattle.module_graph.specs.Uses.{used_by, used_lists};
-ghost use Rattle.module_graph.specs.Marks.{IsMarked, IsUnmarked};
+ghost use Rattle.ftn_base.specs.ModuleUses.{used_by};
+ghost use Rattle.module_graph.specs.Uses.{used_lists};
+ghost use Rattle.module_graph.specs.steps.Marks.{IsMarked, IsUnmarked};
 
 use ftn_base::NoMemory;
 use std::alloc::Global;

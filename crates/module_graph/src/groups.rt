@@ -9,8 +9,9 @@
 //! one number. That no others have it is not proved: it saves time, and nothing else rests on it.
 
 ghost use Rattle.std.specs.Prelude.{◌≡◌, ◌+◌, ◌<◌, ◌^◌, ◌∷◌, [], length, All, IfOk, OnOk};
-ghost use Rattle.module_graph.specs.Uses.{AreBelow, AreKnown, used_lists};
-ghost use Rattle.module_graph.specs.Groups.{IsGiving, NeverFalls, without_number};
+ghost use Rattle.ftn_base.specs.ModuleUses.{AreKnown};
+ghost use Rattle.module_graph.specs.Uses.{AreBelow, used_lists};
+ghost use Rattle.module_graph.specs.steps.Groups.{IsGiving, NeverFalls, without_number};
 
 use crate::entries::{Entry, empty_lists, list_of};
 use crate::walk::walk_on;

@@ -1,9 +1,11 @@
 //! The order of modules.
 
 ghost use Rattle.std.specs.Prelude.{◌<◌, ◌^◌, ℕ, length, IfErr, IfOk, IsOk};
-ghost use Rattle.module_graph.specs.Uses.{AreKnown, used_lists};
-ghost use Rattle.module_graph.specs.Orders.{IsOrder};
-ghost use Rattle.module_graph.specs.Cycles.{IsOnCycle, IsTrueFault};
+ghost use Rattle.ftn_base.specs.ModuleUses.{AreKnown};
+ghost use Rattle.ftn_base.specs.ModuleOrders.{IsOrder};
+ghost use Rattle.ftn_base.specs.ModuleCycles.{IsOnCycle};
+ghost use Rattle.module_graph.specs.Uses.{used_lists};
+ghost use Rattle.module_graph.specs.Faults.{IsTrueFault};
 
 use crate::fault::GraphFault;
 use crate::placing::{is_whole, place_all};

@@ -3,8 +3,9 @@
 ghost use Rattle.std.specs.Prelude.{◌≡◌, ◌<◌, ◌^◌, ◌↔◌, [], ◌∷◌, false, true, length, replicate, All, IfOk, IfSome, IsSome};
 ghost use Rattle.std.specs.Ordering.{nat_cmp};
 ghost use Rattle.std.specs.declared.cmp.Ordering.TheVariants.{Less};
-ghost use Rattle.module_graph.specs.Uses.{AreKnown, used_lists};
-ghost use Rattle.module_graph.specs.Marks.{IsStuck};
+ghost use Rattle.ftn_base.specs.ModuleUses.{AreKnown};
+ghost use Rattle.module_graph.specs.Uses.{used_lists};
+ghost use Rattle.module_graph.specs.steps.Marks.{IsStuck};
 
 use crate::entries::{Entry, empty_lists};
 use crate::waiting::{mark, settle_all};

@@ -1,10 +1,11 @@
 //! The search for a cycle.
 
 ghost use Rattle.std.specs.Prelude.{◌≡◌, ◌≢◌, ◌<◌, ◌^◌, ℕ, length, true, false, slice_index, All, IfOk, MatchOption};
-ghost use Rattle.module_graph.specs.Uses.{AreKnown, used_lists};
-ghost use Rattle.module_graph.specs.Cycles.{IsLeastCycle, IsOnCycle};
-ghost use Rattle.module_graph.specs.Marks.{IsEntry, IsSearch, IsWayBack, to_do};
-ghost use Rattle.module_graph.specs.Walks.{modules_of};
+ghost use Rattle.ftn_base.specs.ModuleUses.{AreKnown};
+ghost use Rattle.ftn_base.specs.ModuleCycles.{IsLeastCycle, IsOnCycle};
+ghost use Rattle.module_graph.specs.Uses.{used_lists};
+ghost use Rattle.module_graph.specs.steps.Marks.{IsEntry, IsSearch, IsWayBack, to_do};
+ghost use Rattle.module_graph.specs.steps.Walks.{modules_of};
 
 use crate::entries::{Entry, list_of};
 use crate::groups::group_numbers;

@@ -1,9 +1,10 @@
 //! Modules that wait for one that they use, and modules that are ready.
 
 ghost use Rattle.std.specs.Prelude.{◌≡◌, ◌<◌, ◌⊎◌, ◌^◌, ℕ, [], length, true, All, Contains, OnOk, slice_set};
-ghost use Rattle.module_graph.specs.Uses.{AreKnown, used_by, used_lists};
-ghost use Rattle.module_graph.specs.Marks.{IsEntry, IsUnmarked};
-ghost use Rattle.module_graph.specs.Waiting.{AreCovered, IsCovered, IsSettled, IsSound, IsTaken, waiter_lists, waiters_on};
+ghost use Rattle.ftn_base.specs.ModuleUses.{AreKnown, used_by};
+ghost use Rattle.module_graph.specs.Uses.{used_lists};
+ghost use Rattle.module_graph.specs.steps.Marks.{IsEntry, IsUnmarked};
+ghost use Rattle.module_graph.specs.steps.Waiting.{AreCovered, IsCovered, IsSettled, IsSound, IsTaken, waiter_lists, waiters_on};
 
 use crate::entries::{Entry, list_of, next_open};
 use ftn_base::NoMemory;

@@ -1,9 +1,10 @@
 //! Walks along uses, depth first.
 
 ghost use Rattle.std.specs.Prelude.{◌≡◌, ◌<◌, length, All, IfOk, IfSome, OnOk};
-ghost use Rattle.module_graph.specs.Uses.{AreKnown, used_lists};
-ghost use Rattle.module_graph.specs.Marks.{IsEntry, to_do};
-ghost use Rattle.module_graph.specs.Walks.{IsStep};
+ghost use Rattle.ftn_base.specs.ModuleUses.{AreKnown};
+ghost use Rattle.module_graph.specs.Uses.{used_lists};
+ghost use Rattle.module_graph.specs.steps.Marks.{IsEntry, to_do};
+ghost use Rattle.module_graph.specs.steps.Walks.{IsStep};
 
 use crate::entries::{Entry, list_of, next_open};
 use ftn_base::NoMemory;

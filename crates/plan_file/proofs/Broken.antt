@@ -4,9 +4,10 @@ use Rattle.std.specs.List.{concat, flat_map}
 use Rattle.std.proofs.lemmas.Bool.{eqb-true, eq-eqb}
 use Rattle.std.proofs.lemmas.List.{append_assoc, append_cancel_left, append-nil, length-append, length-replicate, nil_from_length}
 use Rattle.ftn_base.specs.Files.{File}
-use Rattle.plan_file.specs.Plans.{most_files, IsPlan, title, count_field, file_field, text_field, entry, ending}
+use Rattle.ftn_base.specs.Limits.{most_files}
+use Rattle.plan_file.specs.Plans.{IsPlan, title, count_field, file_field, text_field, entry, ending}
 use Rattle.plan_file.specs.Fields.{BeginsWith, MayBegin, fields_of, fields, HasWhole, IsTextOf}
-use Rattle.plan_file.specs.Next.{IsNext, HasNoNext, HasNoText, IsBrokenWith}
+use Rattle.plan_file.specs.steps.Next.{IsNext, HasNoNext, HasNoText, IsBrokenWith}
 use Rattle.plan_file.proofs.Order.{begins_more, next_in}
 use Rattle.plan_file.proofs.Rows.{end_if, row_of, Behind, Beyond, walk, all_before, all_of, opening, Stands, GoesOn, plan_spelled, plan_goes_on}
 use Rattle.plan_file.proofs.Sizes.{opening_short, file_short}

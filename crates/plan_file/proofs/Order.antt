@@ -12,9 +12,10 @@ use Rattle.std.proofs.lemmas.List.{length-append}
 use Rattle.std.proofs.lemmas.List.Sums.{sum_by-append, sum_by-cons}
 use Rattle.ftn_base.specs.Files.{File, by_name, is_source, IsInOrder}
 use Rattle.ftn_base.specs.Names.{is_file_name}
-use Rattle.plan_file.specs.Plans.{is_planned, size_of, most_of_text, most_of_all}
+use Rattle.ftn_base.specs.Limits.{most_file_bytes, most_project_bytes}
+use Rattle.plan_file.specs.Plans.{is_planned, size_of}
 use Rattle.plan_file.specs.Fields.{MayBegin}
-use Rattle.plan_file.specs.Next.{are_before, IsNext, may_come}
+use Rattle.plan_file.specs.steps.Next.{are_before, IsNext, may_come}
 
 less : (o : Ordering) → is_lt o ≡ true → o ≡ Less
 less Less h = refl
@@ -61,20 +62,20 @@ pub next_from : (files : List File) (size : ℕ) (name : List ℕ) → is_file_n
 next_from files size name valid may =
     let source : Bool = is_source name in
     let later : Bool = are_before files name in
-    let short : Bool = nat_le size most_of_text in
-    let small : Bool = nat_le (size_of files + size) most_of_all in
+    let short : Bool = nat_le size most_file_bytes in
+    let small : Bool = nat_le (size_of files + size) most_project_bytes in
     let all = and_parts (source && later && short) small may in
     let three = and_parts (source && later) short all.0 in
     let two = and_parts source later three.0 in
-    record { valid = valid; source = two.0; short = leb-true size most_of_text three.1; later = two.1; small = leb-true (size_of files + size) most_of_all all.1 }
+    record { valid = valid; source = two.0; short = leb-true size most_file_bytes three.1; later = two.1; small = leb-true (size_of files + size) most_project_bytes all.1 }
 
 pub may_from : (files : List File) (size : ℕ) (name : List ℕ) → IsNext files size name → may_come files size name ≡ true
 may_from files size name h =
     let source : Bool = is_source name in
     let later : Bool = are_before files name in
-    let short : Bool = nat_le size most_of_text in
-    let small : Bool = nat_le (size_of files + size) most_of_all in
-    and_from (source && later && short) small (and_from (source && later) short (and_from source later h.source h.later) (le-leb size most_of_text h.short)) (le-leb (size_of files + size) most_of_all h.small)
+    let short : Bool = nat_le size most_file_bytes in
+    let small : Bool = nat_le (size_of files + size) most_project_bytes in
+    and_from (source && later && short) small (and_from (source && later) short (and_from source later h.source h.later) (le-leb size most_file_bytes h.short)) (le-leb (size_of files + size) most_project_bytes h.small)
 
 below_push : (name : List ℕ) (files : List File) (file : File) → below_all by_name name files ≡ true → is_lt (by_name name file.0) ≡ true → below_all by_name name (files ++ file ∷ []) ≡ true
 below_push name [] file all last = and_from (is_lt (by_name name file.0)) true last refl
@@ -112,13 +113,13 @@ planned_at (f ∷ fs) file more all = planned_at fs file more (and_parts (is_pla
 pub record Planned (file : File) : Type 0 where
   pub valid : is_file_name file.0 ≡ true
   pub source : is_source file.0 ≡ true
-  pub short : length file.1 ≤ most_of_text
+  pub short : length file.1 ≤ most_file_bytes
 
 pub planned_is : (file : File) → is_planned file ≡ true → Planned file
 planned_is file h =
-    let two = and_parts (is_file_name file.0 && is_source file.0) (nat_le (length file.1) most_of_text) h in
+    let two = and_parts (is_file_name file.0 && is_source file.0) (nat_le (length file.1) most_file_bytes) h in
     let one = and_parts (is_file_name file.0) (is_source file.0) two.0 in
-    record { valid = one.0; source = one.1; short = leb-true (length file.1) most_of_text two.1 }
+    record { valid = one.0; source = one.1; short = leb-true (length file.1) most_file_bytes two.1 }
 
 pub size_at : (files : List File) (file : File) (more : List File) → size_of (files ++ file ∷ more) ≡ size_of files + (length file.1 + size_of more)
 size_at files file more = sum_by-append (λ (f : File). length f.1) files (file ∷ more) ∙ ap (λ n. size_of files + n) (sum_by-cons (λ (f : File). length f.1) file more)
@@ -126,7 +127,7 @@ size_at files file more = sum_by-append (λ (f : File). length f.1) files (file 
 pub begins_more : (count : ℕ) (files : List File) (file : File) → MayBegin count files → length files < count → IsNext files (length file.1) file.0 → MayBegin count (files ++ file ∷ [])
 begins_more count files file begun less next =
     let one : is_planned file ≡ true
-    = and_from (is_file_name file.0 && is_source file.0) (nat_le (length file.1) most_of_text) (and_from (is_file_name file.0) (is_source file.0) next.valid next.source) (le-leb (length file.1) most_of_text next.short) in
+    = and_from (is_file_name file.0 && is_source file.0) (nat_le (length file.1) most_file_bytes) (and_from (is_file_name file.0) (is_source file.0) next.valid next.source) (le-leb (length file.1) most_file_bytes next.short) in
     let small = next.small in
     record {
       some = begun.some;

@@ -5,9 +5,10 @@ use Rattle.std.specs.Option.{IfSome, IsSomeAnd}
 use Rattle.std.proofs.lemmas.List.{append_assoc, append-nil, length-append, nil_from_length}
 use Rattle.std.proofs.lemmas.List.Concat.{flat_map-append}
 use Rattle.ftn_base.specs.Files.{File}
-use Rattle.plan_file.specs.Plans.{most_files, most_of_all, size_of, title, count_field, entry, ending}
+use Rattle.ftn_base.specs.Limits.{most_files, most_project_bytes}
+use Rattle.plan_file.specs.Plans.{size_of, title, count_field, entry, ending}
 use Rattle.plan_file.specs.Fields.{BeginsWith, MayBegin, IsTextOf}
-use Rattle.plan_file.specs.Next.{Takes, Stops, IsStopped, IsBrokenWith}
+use Rattle.plan_file.specs.steps.Next.{Takes, Stops, IsStopped, IsBrokenWith}
 use Rattle.plan_file.specs.declared.fault.Stop.{Stop}
 use Rattle.plan_file.specs.declared.fault.Stop.TheVariants.{Broken, NoMemory}
 use Rattle.plan_file.proofs.Order.{begins_more, size_at}
@@ -60,7 +61,7 @@ stands_more bytes count files more left rest total turns size h less takes =
     let larger : total + size ≡ size_of (files ++ file ∷ []) = omega (arith, size_at files file []) in
     subst (λ (fs : List File). Standing bytes count fs rest (total + size) (turns + 1)) (sym takes.joined) (record { stands = stands; number = longer; sum = larger })
 
-pub stays_small : (files more : List File) (left rest : List ℕ) (total size : ℕ) → total ≡ size_of files → Takes files more left size rest → total + size ≤ most_of_all
+pub stays_small : (files more : List File) (left rest : List ℕ) (total size : ℕ) → total ≡ size_of files → Takes files more left size rest → total + size ≤ most_project_bytes
 stays_small files more left rest total size sum takes = let small = takes.next.small in let sized = takes.sized in omega arith
 
 pub stopped_there : (stop : Stop) (bytes : List ℕ) (count : ℕ) (files : List File) (left : List ℕ) → Stands bytes count files left → length files < count → Stops stop files left → IsStopped stop bytes

@@ -8,7 +8,8 @@ use Rattle.std.proofs.lemmas.List.{append-nil, length-append}
 use Rattle.std.proofs.lemmas.List.Sums.{sum_by-cons}
 use Rattle.ftn_base.specs.Files.{File}
 use Rattle.ftn_base.specs.Names.{is_file_name, are_file_bytes}
-use Rattle.plan_file.specs.Plans.{most_of_text, is_planned, size_of, title, count_field, file_field, text_field, entry}
+use Rattle.ftn_base.specs.Limits.{most_file_bytes}
+use Rattle.plan_file.specs.Plans.{is_planned, size_of, title, count_field, file_field, text_field, entry}
 use Rattle.plan_file.specs.Fields.{MayBegin}
 use Rattle.plan_file.proofs.Order.{planned_is}
 use Rattle.plan_file.proofs.Rows.{opening}
@@ -17,7 +18,7 @@ use Rattle.plan_file.proofs.Words.{count_spelled, file_spelled}
 name_short : (name : List ℕ) → is_file_name name ≡ true → length name ≤ 255
 name_short name valid = leb-true (length name) 255 (and_parts _ _ (and_parts _ (are_file_bytes name) valid).0).1
 
-pub file_short : (size : ℕ) (name : List ℕ) → size ≤ most_of_text → is_file_name name ≡ true → length (file_field size name) ≤ 269
+pub file_short : (size : ℕ) (name : List ℕ) → size ≤ most_file_bytes → is_file_name name ≡ true → length (file_field size name) ≤ 269
 file_short size name short valid =
     let digits : length (decimal size) ≤ 7 = length-decimal-le 7 size (omega arith) (omega arith) (omega arith) in
     let spelled : length (file_field size name) ≡ 5 + length (decimal size ++ 32 ∷ (name ++ 10 ∷ [])) = ap length (sym (append-nil (file_field size name)) ∙ file_spelled size name []) ∙ omega arith in

@@ -1,13 +1,13 @@
 -- Whether a file comes next.
 use Rattle.std.proofs.Common.{◌≡◌, ℕ, ◌<◌, ◌^◌, true, false, List, [], ◌∷◌, ◌++◌, length, Option, Some, None, sym, ap, subst, ◌∙◌, arith}
 use Rattle.std.specs.Option.{IsSomeAnd, IfSome}
-use Rattle.ftn_base.specs.Files.{File}
-use Rattle.ftn_base.specs.Names.{is_file_name}
 use Rattle.std.proofs.lemmas.Bool.{both_ways}
 use Rattle.std.proofs.lemmas.List.{append_assoc}
+use Rattle.ftn_base.specs.Files.{File}
+use Rattle.ftn_base.specs.Names.{is_file_name}
 use Rattle.plan_file.specs.Plans.{file_field, text_field}
 use Rattle.plan_file.specs.Fields.{BeginsWith}
-use Rattle.plan_file.specs.Next.{IsNext, HasNoNext, Takes, may_come}
+use Rattle.plan_file.specs.steps.Next.{IsNext, HasNoNext, Takes, may_come}
 use Rattle.plan_file.proofs.Order.{may_from}
 
 pub no_field : {X : Type 0} (found : Option X) (named : X → List ℕ) (sized : X → ℕ) (files : List File) (bytes : List ℕ) → found ≡ None

@@ -8,7 +8,7 @@ use Rattle.std.proofs.lemmas.Fmt.{decimal_by_steps, decimal_injective}
 use Rattle.std.proofs.lemmas.List.{append_assoc, append_cancel_left, length-append, take_at, drop_at, take_rest}
 use Rattle.ftn_base.specs.Names.{is_file_name, is_file_byte, are_file_bytes}
 use Rattle.plan_file.specs.Fields.{BeginsWith}
-use Rattle.plan_file.specs.Next.{lacks}
+use Rattle.plan_file.specs.steps.Next.{lacks}
 use Rattle.plan_file.specs.Plans.{count_field, file_field}
 
 front_length : (p : ℕ → Bool) (word : List ℕ) (byte : ℕ) (rest : List ℕ) → list_all p word ≡ true → p byte ≡ false → prefix_len p (word ++ byte ∷ rest) ≡ length word

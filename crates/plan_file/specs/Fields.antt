@@ -2,7 +2,8 @@
 use Rattle.std.specs.Prelude.{◌≡◌, ⊤, ℕ, ◌≤◌, true, nat_eq, if◌then◌else◌, List, [], ◌∷◌, ◌++◌, length, take}
 use Rattle.std.specs.List.{concat, flat_map, list_all}
 use Rattle.ftn_base.specs.Files.{File, IsInOrder}
-use Rattle.plan_file.specs.Plans.{most_files, most_of_all, size_of, is_planned, IsPlan, title, count_field, file_field, text_field, ending, plan_text}
+use Rattle.ftn_base.specs.Limits.{most_files, most_project_bytes}
+use Rattle.plan_file.specs.Plans.{size_of, is_planned, IsPlan, title, count_field, file_field, text_field, ending, plan_text}
 use Rattle.plan_file.specs.declared.fault.PlanFault.{PlanFault}
 use Rattle.plan_file.specs.declared.fault.PlanFault.TheVariants.{NotAPlan, NoMemory}
 
@@ -17,7 +18,7 @@ pub record MayBegin (count : ℕ) (files : List File) : Type 0 where
   pub within : length files ≤ count
   pub planned : list_all is_planned files ≡ true
   pub in_order : IsInOrder files
-  pub small : size_of files ≤ most_of_all
+  pub small : size_of files ≤ most_project_bytes
 
 abbrev pub fields_of : File → List (List ℕ)
 fields_of file = file_field (length file.1) file.0 ∷ text_field file.1 ∷ []

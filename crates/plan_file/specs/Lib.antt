@@ -1,3 +1,3 @@
 pub mod Fields
-pub mod Next
 pub mod Plans
+pub mod steps

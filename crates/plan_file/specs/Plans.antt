@@ -3,19 +3,8 @@ use Rattle.std.specs.Prelude.{◌≡◌, ℕ, ◌≤◌, Bool, true, ◌&&◌, n
 use Rattle.std.specs.Fmt.{decimal}
 use Rattle.std.specs.List.{flat_map, list_all, sum_by}
 use Rattle.ftn_base.specs.Files.{File, IsInOrder, is_source}
+use Rattle.ftn_base.specs.Limits.{most_files, most_file_bytes, most_project_bytes}
 use Rattle.ftn_base.specs.Names.{is_file_name}
-
--- how many files a plan has at the most
-abbrev pub most_files : ℕ
-most_files = 4096
-
--- how many bytes a text has at the most
-abbrev pub most_of_text : ℕ
-most_of_text = 4194304
-
--- how many bytes all texts have at the most
-abbrev pub most_of_all : ℕ
-most_of_all = 16777216
 
 -- how many bytes all texts have
 abbrev pub size_of : List File → ℕ
@@ -23,7 +12,7 @@ size_of files = sum_by (λ file. length file.1) files
 
 -- a source file's name, and a text that isn't too long
 abbrev pub is_planned : File → Bool
-is_planned file = is_file_name file.0 && is_source file.0 && nat_le (length file.1) most_of_text
+is_planned file = is_file_name file.0 && is_source file.0 && nat_le (length file.1) most_file_bytes
 
 -- a valid plan
 pub record IsPlan (files : List File) : Type 0 where
@@ -31,7 +20,7 @@ pub record IsPlan (files : List File) : Type 0 where
   pub few : length files ≤ most_files
   pub planned : list_all is_planned files ≡ true
   pub in_order : IsInOrder files
-  pub small : size_of files ≤ most_of_all
+  pub small : size_of files ≤ most_project_bytes
 
 -- the first field
 abbrev pub title : List ℕ

@@ -4,9 +4,10 @@ ghost use Rattle.std.specs.Prelude.{◌≡◌, ◌++◌, ◌∷◌, ◌<◌, ◌
 ghost use Rattle.std.specs.Fmt.{decimal};
 ghost use Rattle.std.specs.List.{position};
 ghost use Rattle.ftn_base.specs.Names.{is_file_name};
+ghost use Rattle.ftn_base.specs.Limits.{most_files};
 ghost use Rattle.plan_file.specs.Fields.{BeginsWith};
-ghost use Rattle.plan_file.specs.Next.{lacks};
-ghost use Rattle.plan_file.specs.Plans.{most_files, count_field, file_field, text_field};
+ghost use Rattle.plan_file.specs.steps.Next.{lacks};
+ghost use Rattle.plan_file.specs.Plans.{count_field, file_field, text_field};
 
 use crate::writing::{put_count, put_file_field};
 use ftn_base::NoMemory;

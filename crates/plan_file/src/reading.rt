@@ -2,22 +2,17 @@
 
 ghost use Rattle.std.specs.Prelude.{◌≡◌, ◌++◌, [], ◌∷◌, ◌≤◌, length, IfOk, IfErr, IsTrue, List};
 ghost use Rattle.ftn_base.specs.Files.{File, IsInOrder};
+ghost use Rattle.ftn_base.specs.Limits.{most_project_bytes};
 ghost use Rattle.plan_file.specs.Fields as spec;
-ghost use Rattle.plan_file.specs.Next as next;
-ghost use Rattle.plan_file.specs.Plans.{size_of, most_of_all};
+ghost use Rattle.plan_file.specs.steps.Next as next;
+ghost use Rattle.plan_file.specs.Plans.{size_of};
 
 use crate::fault::{PlanFault, Stop};
 use crate::fields::{after, count_at, file_at, text_at};
 use crate::plan::Plan;
-use ftn_base::{Bytes, FileName, NameFault};
+use ftn_base::{Bytes, FileName, MOST_FILE_BYTES, MOST_FILES, MOST_PROJECT_BYTES, NameFault};
 use sqlite_items::Items;
 use std::alloc::Global;
-
-const MOST_FILES: u32 = 4096;
-
-const MOST_OF_TEXT: u32 = 4_194_304;
-
-const MOST_OF_ALL: u32 = 16_777_216;
 
 /// Whether the name comes after the names of files in order.
 fn is_later(files: &[(FileName, Bytes)], name: &FileName) -> bool
@@ -34,10 +29,13 @@ fn is_later(files: &[(FileName, Bytes)], name: &FileName) -> bool
 fn may_come(files: &[(FileName, Bytes)], total: u32, size: u32, name: &FileName) -> bool
     requires order { IsInOrder files.now }
     requires total { total ≡ size_of files.now }
-    requires small { total ≤ most_of_all }
+    requires small { total ≤ most_project_bytes }
     ensures { result ≡ next.may_come files.now size name.now }
 {
-    name.is_source() && is_later(files, name) && size <= MOST_OF_TEXT && total + size <= MOST_OF_ALL
+    name.is_source()
+        && is_later(files, name)
+        && size <= MOST_FILE_BYTES
+        && total + size <= MOST_PROJECT_BYTES
 }
 
 /// The file that comes next joins the files, whose texts have `total` bytes. Gives its length, and the bytes after it.
@@ -49,7 +47,7 @@ fn next_file<'a>(
 ) -> Result<(u32, &'a [u8]), Stop>
     requires order { IsInOrder files.old.items }
     requires total { total ≡ size_of files.old.items }
-    requires small { total ≤ most_of_all }
+    requires small { total ≤ most_project_bytes }
     ensures took { IfOk result (λ found. next.Takes files.old.items files.new.items bytes.now found.0 found.1.now) }
     ensures stopped { IfErr result (λ stop. next.Stops stop files.old.items bytes.now) }
 {

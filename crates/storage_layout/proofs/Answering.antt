@@ -2,16 +2,17 @@
 use Rattle.std.proofs.Common.{◌≡◌, ℕ, List, [], ◌++◌, All, Option, take, length, sym, ◌∙◌, subst, ap}
 use Rattle.ftn_base.specs.declared.entity.Tie.{Tie}
 use Rattle.ftn_base.specs.Storage.{tie_links}
+use Rattle.ftn_base.specs.Storage.{IsWithin}
+use Rattle.ftn_base.specs.declared.storage.Object.{Object}
+use Rattle.ftn_base.specs.declared.storage.BlockList.{BlockList}
+use Rattle.ftn_base.specs.declared.storage.Member.{Member}
+use Rattle.ftn_base.specs.StorageMembers.{all_members, sizes_of, links}
+use Rattle.ftn_base.specs.StorageFaults.{IsExtended, AreBlocksJoined}
+use Rattle.ftn_base.specs.StorageLayout.{IsSound}
 use Rattle.equiv_class.specs.Sound as classes
-use Rattle.equiv_class.specs.Sound.{IsWithin}
-use Rattle.storage_layout.specs.declared.given.Object.{Object}
-use Rattle.storage_layout.specs.declared.given.BlockList.{BlockList}
 use Rattle.storage_layout.specs.declared.things.Things.{Things}
-use Rattle.storage_layout.specs.Members.{Member, all_members, sizes_of, links}
-use Rattle.storage_layout.specs.Faults.{IsExtended, AreBlocksJoined}
-use Rattle.storage_layout.specs.Numbered.{AreNames, AreMemberTies, AreBlocksOf}
-use Rattle.storage_layout.specs.Laid.{IsSound}
-use Rattle.storage_layout.specs.Kept.{AreMembers, AreKept, given_of, sizes_in}
+use Rattle.storage_layout.specs.steps.Numbered.{AreNames, AreMemberTies, AreBlocksOf}
+use Rattle.storage_layout.specs.steps.Kept.{AreMembers, AreKept, given_of, sizes_in}
 use Rattle.storage_layout.proofs.Keeping.{sizes_counted}
 use Rattle.storage_layout.proofs.Parts.{objects_known, members_known}
 use Rattle.storage_layout.proofs.Laid.{sound}

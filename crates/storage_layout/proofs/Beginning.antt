@@ -3,19 +3,21 @@ use Rattle.std.proofs.Common.{zero, ◌≡◌, ◌≢◌, ℕ, ◌<◌, ℤ, pos
 use Rattle.std.proofs.lemmas.Int.{ints}
 use Rattle.std.proofs.lemmas.List.{get_or_default}
 use Rattle.std.proofs.lemmas.List.Kept.{AllPairs-filter}
+use Rattle.std.proofs.lemmas.Bool.{ltb-true, ltb-false}
 use Rattle.ftn_base.specs.Storage.{Thing, Link, object, block, member_link, Leads, AreOneUnit}
 use Rattle.ftn_base.proofs.WalkLaws.{leads_kept}
-use Rattle.storage_layout.specs.declared.given.Object.{Object}
+use Rattle.ftn_base.specs.declared.storage.Object.{Object}
+use Rattle.ftn_base.specs.declared.storage.Member.{Member}
+use Rattle.ftn_base.specs.StorageMembers.{start_after, links_after, list_links, links}
+use Rattle.ftn_base.specs.StorageFaults.{IsExtended, AreBlocksJoined, AreMixed}
 use Rattle.storage_layout.specs.declared.things.Things.{Things}
 use Rattle.storage_layout.specs.declared.kind.Kind.{Kind}
 use Rattle.storage_layout.specs.declared.kind.Kind.TheVariants as kind
-use Rattle.storage_layout.specs.Members.{Member, start_after, links_after, list_links, links}
-use Rattle.storage_layout.specs.Faults.{IsExtended, AreBlocksJoined, AreMixed}
-use Rattle.storage_layout.specs.Kept.{AreKept, sizes_in}
-use Rattle.storage_layout.specs.Held.{Holds}
+use Rattle.storage_layout.specs.steps.Kept.{AreKept, sizes_in}
+use Rattle.storage_layout.specs.steps.Held.{Holds}
 use Rattle.storage_layout.proofs.Potential.{either, cons_cases, cons_more, place_in, walk_places}
 use Rattle.storage_layout.proofs.Conflict.{link_none}
-use Rattle.storage_layout.proofs.Laid.{no_object, one_block, lt_of, not_below}
+use Rattle.storage_layout.proofs.Laid.{no_object, one_block}
 
 no_tie : (sizes : List ℕ) (members : List Member) → links sizes members [] ≡ list_links sizes members
 no_tie sizes members = link_none (list_links sizes members)
@@ -46,9 +48,9 @@ module _ (sizes : List ℕ) (members : List Member) (once : AllPairs (λ earlier
       second = at_place j other at_j one lt_j
 
       by_case : (a b : Bool) → nat_lt k j ≡ a → nat_lt j k ≡ b → one ≡ other
-      by_case true b less o = absurd (once k j one (lt_of k j less) lt_j (ap (λ (m : Member). m.object) first ∙ same ∙ sym (ap (λ (m : Member). m.object) second)))
-      by_case false true o less = absurd (once j k one (lt_of j k less) lt_k (ap (λ (m : Member). m.object) second ∙ sym same ∙ sym (ap (λ (m : Member). m.object) first)))
-      by_case false false o p = let low = not_below k j o in let high = not_below j k p in let e : k ≡ j = omega (arith, low, high) in sym first ∙ ap (λ (i : ℕ). get_or members i one) e ∙ second
+      by_case true b less o = absurd (once k j one (ltb-true k j less) lt_j (ap (λ (m : Member). m.object) first ∙ same ∙ sym (ap (λ (m : Member). m.object) second)))
+      by_case false true o less = absurd (once j k one (ltb-true j k less) lt_k (ap (λ (m : Member). m.object) second ∙ sym same ∙ sym (ap (λ (m : Member). m.object) first)))
+      by_case false false o p = let low = ltb-false k j o in let high = ltb-false j k p in let e : k ≡ j = omega (arith, low, high) in sym first ∙ ap (λ (i : ℕ). get_or members i one) e ∙ second
 
 list_link : (sizes : List ℕ) (before members : List Member) (link : Link) → Contains (links_after sizes before members) link → (m : Member) × Contains members m × (link.from ≡ block m.block) × (link.to ≡ object m.object)
 list_link sizes before [] link there = absurd (omega (arith, there.1))

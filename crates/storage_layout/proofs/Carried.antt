@@ -5,11 +5,13 @@ use Rattle.std.proofs.lemmas.Int.{ints}
 use Rattle.std.proofs.lemmas.Bool.Decides.{nat_tests}
 use Rattle.std.proofs.lemmas.List.Elements.{All-contains, Contains-append_left, Contains-append_right, Contains-append_cases}
 use Rattle.std.proofs.lemmas.List.Sums.{passes_at_first}
+use Rattle.std.proofs.lemmas.Bool.{eqb-true}
 use Rattle.ftn_base.specs.declared.entity.Tie.{Tie}
 use Rattle.ftn_base.specs.Storage.{Thing, Link, object, block, member_link, tie_link, tie_links, Leads, IsContradicted}
 use Rattle.ftn_base.proofs.WalkLaws.{leads_kept, leads_nowhere, leads_on, leads_back, leads_by, leads_forward}
-use Rattle.storage_layout.specs.Members.{Member, start_after, links_after, list_links, links}
-use Rattle.storage_layout.specs.Numbered.{numbered, named, IsMemberTie, AreMemberTies}
+use Rattle.ftn_base.specs.declared.storage.Member.{Member}
+use Rattle.ftn_base.specs.StorageMembers.{start_after, links_after, list_links, links}
+use Rattle.storage_layout.specs.steps.Numbered.{numbered, named, IsMemberTie, AreMemberTies}
 use Rattle.storage_layout.proofs.Potential.{either, cons_cases, cons_more}
 
 -- where each link leads along the images of its ends, each walk does
@@ -74,9 +76,6 @@ block_named count i names = let less : nat_lt (count + i) count ≡ false = grin
 
 -- ---- back from the kept ties
 
-pub same_number : (a b : ℕ) → nat_eq a b ≡ true → a ≡ b
-same_number a b e = grind (arith, nat_tests)
-
 module _ (names sizes : List ℕ) (all : List Member) (given : List Tie) where
   given_back : All (λ tie. (tie.a < length sizes) × (tie.b < length sizes)) given → (tie : Tie) → Contains given tie
       → Leads (links sizes all given) (named (length sizes) names (object tie.a)) (named (length sizes) names (object tie.b)) (pos tie.at_a -ℤ pos tie.at_b)
@@ -94,7 +93,7 @@ module _ (names sizes : List ℕ) (all : List Member) (given : List Tie) where
       let by : pos (start_after sizes before member) ≡ pos tie.at_a -ℤ pos tie.at_b = (let at_a : tie.at_a ≡ start_after sizes before member = is.at_a in let at_b : tie.at_b ≡ 0 = is.at_b in omega (arith, ints)) in
       let plain = leads_by those (block member.block) (object member.object) (pos (start_after sizes before member)) (pos tie.at_a -ℤ pos tie.at_b) (leads_forward those (member_link member.block member.object (start_after sizes before member)) there) by in
       let index : ℕ = position_or_len (nat_eq member.block) names in
-      let name : get_or names index 0 ≡ member.block = sym (same_number member.block (get_or names index 0) (passes_at_first (nat_eq member.block) names 0 is.known)) in
+      let name : get_or names index 0 ≡ member.block = sym (eqb-true member.block (get_or names index 0) (passes_at_first (nat_eq member.block) names 0 is.known)) in
       let from : named (length sizes) names (object tie.a) ≡ block member.block = ap (λ (a : ℕ). named (length sizes) names (object a)) is.a ∙ block_named (length sizes) index names ∙ ap block name in
       let to : named (length sizes) names (object tie.b) ≡ object member.object = ap (λ (b : ℕ). named (length sizes) names (object b)) is.b ∙ object_named (length sizes) names member.object lt in
       subst (λ (x : Thing). Leads those x (named (length sizes) names (object tie.b)) (pos tie.at_a -ℤ pos tie.at_b)) (sym from)

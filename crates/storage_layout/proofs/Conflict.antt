@@ -2,16 +2,17 @@
 use Rattle.std.proofs.Common.{suc, ◌≡◌, ◌≢◌, ℕ, ◌+◌, ◌-◌, ◌<◌, ◌≤◌, List, [], ◌∷◌, ◌++◌, Bool, true, false, Contains, All, AllPairs, take, drop, nat_lt, length, refl, sym, ◌∙◌, subst, ap, arith}
 use Rattle.std.proofs.lemmas.List.{length-append, take-append-le, take-append-drop}
 use Rattle.std.proofs.lemmas.List.Elements.{Contains-append_left, All-take}
+use Rattle.std.proofs.lemmas.Bool.{ltb-true, ltb-false}
 use Rattle.ftn_base.specs.declared.entity.Tie.{Tie}
 use Rattle.ftn_base.specs.Storage.{Link, IsContradicted, tie_links}
 use Rattle.ftn_base.proofs.WalkLaws.{leads_more}
-use Rattle.storage_layout.specs.Members.{Member, list_links, links}
-use Rattle.storage_layout.specs.Numbered.{AreMemberTies}
-use Rattle.storage_layout.specs.Faults.{IsFirst}
+use Rattle.ftn_base.specs.declared.storage.Member.{Member}
+use Rattle.ftn_base.specs.StorageMembers.{list_links, links}
+use Rattle.ftn_base.specs.StorageFaults.{IsFirst}
+use Rattle.storage_layout.specs.steps.Numbered.{AreMemberTies}
 use Rattle.storage_layout.proofs.Potential.{lists_agree}
 use Rattle.storage_layout.proofs.Carried.{contradicts_on, contradicts_back, tie_from, tie_there}
 use Rattle.storage_layout.proofs.Growing.{contradicted_more, is_first}
-use Rattle.storage_layout.proofs.Laid.{lt_of, not_below}
 
 pub take_past : {X : Type 0} (xs ys : List X) (n : ℕ) → take (length xs + n) (xs ++ ys) ≡ xs ++ take n ys
 take_past {X = X} [] ys n = let none : length {A = X} [] + n ≡ n = omega arith in ap (λ (k : ℕ). take k ys) none
@@ -76,5 +77,5 @@ module _ (names sizes : List ℕ) (members : List Member) (given member_ties : L
           (contradicts_on names sizes members (take k given) member_ties are (All-take (λ tie. (tie.a < length sizes) × (tie.b < length sizes)) k given known) there bad)))
 
       by_case : (b : Bool) → nat_lt number (length member_ties) ≡ b → (length member_ties ≤ number) × IsFirst (λ some. IsContradicted (links sizes members some)) given (number - length member_ties)
-      by_case true e = absurd (early (lt_of number (length member_ties) e))
-      by_case false e = (not_below number (length member_ties) e, late (not_below number (length member_ties) e))
+      by_case true e = absurd (early (ltb-true number (length member_ties) e))
+      by_case false e = (ltb-false number (length member_ties) e, late (ltb-false number (length member_ties) e))

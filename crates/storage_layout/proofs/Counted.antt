@@ -5,9 +5,10 @@ use Rattle.std.proofs.lemmas.Bool.Decides.{nat_tests}
 use Rattle.std.proofs.lemmas.List.{get_or-set_other, length-set, take_more}
 use Rattle.std.proofs.lemmas.List.Elements.{All-head, All-tail}
 use Rattle.std.proofs.lemmas.List.Sums.{sum_by-set, sum_by-cons, sum-map, sum_by-take-le}
-use Rattle.storage_layout.specs.Members.{Member, is_in, units_in}
-use Rattle.storage_layout.specs.Numbered.{AreNames}
-use Rattle.storage_layout.specs.Kept.{AreMembers}
+use Rattle.ftn_base.specs.declared.storage.Member.{Member}
+use Rattle.ftn_base.specs.StorageMembers.{is_in, units_in}
+use Rattle.storage_layout.specs.steps.Numbered.{AreNames}
+use Rattle.storage_layout.specs.steps.Kept.{AreMembers}
 use Rattle.storage_layout.proofs.Start.{filter_first, filter_other}
 use Rattle.storage_layout.proofs.Ending.{units_more}
 

@@ -6,8 +6,8 @@ use Rattle.std.proofs.lemmas.Option.{slice_get_within, slice_get-get_or}
 use Rattle.ftn_base.specs.declared.entity.Sort.{Sort}
 use Rattle.storage_layout.specs.declared.span.Span.{Span}
 use Rattle.storage_layout.specs.declared.reaches.Reaches.{Reaches}
-use Rattle.storage_layout.specs.Reaching.{against_of, is_other, further}
-use Rattle.storage_layout.specs.Mixing.{reach_over, against_at, IsKept, IsCrossed, HasCrossing}
+use Rattle.storage_layout.specs.steps.Reaching.{against_of, is_other, further}
+use Rattle.storage_layout.specs.steps.Mixing.{reach_over, against_at, IsKept, IsCrossed, HasCrossing}
 
 some_same : (a b : Span) → Some a ≡ Some b → a ≡ b
 some_same a b e = cc e

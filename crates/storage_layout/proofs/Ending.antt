@@ -5,7 +5,8 @@ use Rattle.std.proofs.lemmas.List.{append-nil, append_assoc, map_push}
 use Rattle.std.proofs.lemmas.List.Elements.{filter-append}
 use Rattle.std.proofs.lemmas.List.Sums.{sum_by_push}
 use Rattle.ftn_base.specs.Storage.{member_link}
-use Rattle.storage_layout.specs.Members.{Member, is_in, units_in, start_after, links_after}
+use Rattle.ftn_base.specs.declared.storage.Member.{Member}
+use Rattle.ftn_base.specs.StorageMembers.{is_in, units_in, start_after, links_after}
 use Rattle.storage_layout.proofs.Potential.{cons_more}
 
 one_kept : (p : Member → Bool) (member : Member) → p member ≡ true → filter p (member ∷ []) ≡ member ∷ []

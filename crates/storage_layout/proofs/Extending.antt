@@ -3,15 +3,16 @@
 use Rattle.std.proofs.Common.{zero, suc, ◌≡◌, ◌≢◌, ℕ, ◌<◌, ◌≤◌, ℤ, pos, negsuc, neg_ℤ, ◌+ℤ◌, ◌-ℤ◌, ◌<ℤ◌, List, [], ◌∷◌, ◌++◌, Bool, true, false, Contains, nat_eq, nat_lt, length, get_or, refl, sym, ◌∙◌, subst, ap, arith}
 use Rattle.std.proofs.lemmas.Int.{ints}
 use Rattle.std.proofs.lemmas.List.Elements.{Contains-append_left, Contains-append_right, Contains-append_cases}
+use Rattle.std.proofs.lemmas.Bool.{eqb-true, ltb-true, ltb-false}
 use Rattle.ftn_base.specs.declared.entity.Tie.{Tie}
 use Rattle.ftn_base.specs.Storage.{Thing, Link, object, block, member_link, tie_link, tie_links, Leads, IsContradicted}
 use Rattle.ftn_base.proofs.WalkLaws.{leads_kept, leads_on, leads_forward, leads_backward, leads_more}
+use Rattle.ftn_base.specs.declared.storage.Member.{Member}
+use Rattle.ftn_base.specs.StorageMembers.{start_after, links_after, list_links, links}
+use Rattle.ftn_base.specs.StorageFaults.{IsExtended}
 use Rattle.equiv_class.specs.Sound as classes
-use Rattle.storage_layout.specs.Members.{Member, start_after, links_after, list_links, links}
-use Rattle.storage_layout.specs.Faults.{IsExtended}
 use Rattle.storage_layout.proofs.Potential.{either, cons_cases, cons_more}
-use Rattle.storage_layout.proofs.Carried.{tie_from, tie_there, same_number}
-use Rattle.storage_layout.proofs.Laid.{lt_of, not_below}
+use Rattle.storage_layout.proofs.Carried.{tie_from, tie_there}
 use Rattle.storage_layout.proofs.Start.{link_kept, kept, of_block, filter_first, filter_other, start_same, kept_with, kept_without}
 
 -- a member stands farther from the first unit that its ties reach than from its block's first unit
@@ -39,7 +40,7 @@ link_all sizes number before after (member ∷ rest) same link there =
     by_block with_it without_it true e =
         let first : kept number (member ∷ rest) ≡ member ∷ kept number rest = filter_first (of_block number) member rest e in
         let more = kept_with number before after member same e in
-        let number_is : member.block ≡ number = same_number member.block number e in
+        let number_is : member.block ≡ number = eqb-true member.block number e in
         either
         (λ is. (
           member.object,
@@ -153,8 +154,8 @@ module _ (sizes all_sizes : List ℕ) (members : List Member) (given : List Tie)
         by_case (nat_lt at.1 (get_or offset at.0 0)) at.0 at.1 at.2 place refl
       where
         by_case : (b : Bool) (m start : ℕ) → Contains (list_links sizes members) (member_link number m start) → pos 0 +ℤ by ≡ pos start +ℤ (pos (get_or offset v 0) -ℤ pos (get_or offset m 0)) → nat_lt start (get_or offset m 0) ≡ b → ⊥
-        by_case true m start in_list place e = near (record { number = number; member = m; start = start; link = in_list; farther = lt_of start (get_or offset m 0) e })
-        by_case false m start in_list place e = let high : get_or offset m 0 ≤ start = not_below start (get_or offset m 0) e in let l : by <ℤ pos 0 = less in absurd (omega (arith, ints))
+        by_case true m start in_list place e = near (record { number = number; member = m; start = start; link = in_list; farther = ltb-true start (get_or offset m 0) e })
+        by_case false m start in_list place e = let high : get_or offset m 0 ≤ start = ltb-false start (get_or offset m 0) e in let l : by <ℤ pos 0 = less in absurd (omega (arith, ints))
 
   -- where lists and ties do not contradict each other and no member stands farther, no tie extends a block
   pub not_extended : (IsContradicted (links sizes members given) → ⊥) → ((tie : Tie) → Contains given tie → (tie.a < length all_sizes) × (tie.b < length all_sizes)) → (IsFarther sizes members offset → ⊥) → IsExtended sizes members given → ⊥

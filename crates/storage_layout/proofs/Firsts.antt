@@ -4,9 +4,9 @@ use Rattle.std.specs.Option.{unwrap_or, option_map}
 use Rattle.std.proofs.lemmas.List.{take_more, take-append-drop, append-nil}
 use Rattle.std.proofs.lemmas.List.Elements.{filter-append}
 use Rattle.std.proofs.lemmas.Option.{slice_get_within, get_or_from_slice_get}
-use Rattle.storage_layout.specs.declared.given.BlockList.{BlockList}
-use Rattle.storage_layout.specs.Ends.{lists_of, first_of, IsUneven}
-use Rattle.storage_layout.proofs.Numbers.{equal_of, test_equal}
+use Rattle.std.proofs.lemmas.Bool.{eqb-true, eq-eqb}
+use Rattle.ftn_base.specs.declared.storage.BlockList.{BlockList}
+use Rattle.storage_layout.specs.steps.Ends.{lists_of, first_of, IsUneven}
 
 some_list : (a b : BlockList) → Some a ≡ Some b → a ≡ b
 some_list a b e = cc e
@@ -32,7 +32,7 @@ first_push number blocks list = ap scope_of (filter-append (λ (l : BlockList). 
     by_case : (b : Bool) → nat_eq list.block number ≡ b → scope_of (lists_of number blocks ++ lists_of number (list ∷ [])) ≡ cond b (Some (unwrap_or (first_of list.block blocks) list.scope)) (first_of number blocks)
     by_case true e =
         ap (λ (rest : List BlockList). scope_of (lists_of number blocks ++ rest)) (one_kept number list e) ∙ first_added (lists_of number blocks) list
-        ∙ ap (λ (k : ℕ). Some (unwrap_or (first_of k blocks) list.scope)) (sym (equal_of list.block number e))
+        ∙ ap (λ (k : ℕ). Some (unwrap_or (first_of k blocks) list.scope)) (sym (eqb-true list.block number e))
     by_case false e = ap (λ (rest : List BlockList). scope_of (lists_of number blocks ++ rest)) (one_left number list e) ∙ ap scope_of (append-nil (lists_of number blocks))
 
 -- the block's first list among all is its first one so far, or the list at hand
@@ -46,7 +46,7 @@ first_list blocks number list there =
     let parts : lists_of list.block blocks ≡ (lists_of list.block (take number blocks) ++ list ∷ []) ++ lists_of list.block (drop (number + 1) blocks) =
     ap (lists_of list.block) whole ∙ filter-append (λ (l : BlockList). nat_eq l.block list.block) (take number blocks ++ list ∷ []) (drop (number + 1) blocks)
     ∙ ap (λ (l : List BlockList). l ++ lists_of list.block (drop (number + 1) blocks))
-    (filter-append (λ (l : BlockList). nat_eq l.block list.block) (take number blocks) (list ∷ []) ∙ ap (λ (l : List BlockList). lists_of list.block (take number blocks) ++ l) (one_kept list.block list (test_equal list.block list.block refl))) in
+    (filter-append (λ (l : BlockList). nat_eq l.block list.block) (take number blocks) (list ∷ []) ∙ ap (λ (l : List BlockList). lists_of list.block (take number blocks) ++ l) (one_kept list.block list (eq-eqb list.block list.block refl))) in
     let found = at_front (lists_of list.block (take number blocks)) list (lists_of list.block (drop (number + 1) blocks)) in
     (found.0, ap (λ (l : List BlockList). slice_get l 0) parts ∙ found.1, found.2)
   where

@@ -1,10 +1,10 @@
 -- The greatest end of members, with one member more.
 use Rattle.std.proofs.Common.{◌≡◌, ℕ, ◌+◌, ◌<◌, ◌≤◌, max, ◌⊎◌, inl, inr, Bool, true, false, ◌&&◌, cond, List, nat_eq, nat_lt, Some, slice_get, refl, sym, ◌∙◌, subst, ap, arith}
+use Rattle.std.proofs.lemmas.Bool.{ltb-true, ltb-false, eqb-true, eq-eqb}
 use Rattle.ftn_base.specs.declared.entity.Tie.{Tie}
-use Rattle.storage_layout.specs.Members.{Member}
-use Rattle.storage_layout.specs.Ends.{last_of, IsEndOf, IsGreatest}
-use Rattle.storage_layout.proofs.Laid.{lt_of, not_below}
-use Rattle.storage_layout.proofs.Numbers.{equal_of, test_equal, lt_split}
+use Rattle.ftn_base.specs.declared.storage.Member.{Member}
+use Rattle.storage_layout.specs.steps.Ends.{last_of, IsEndOf, IsGreatest}
+use Rattle.storage_layout.proofs.Numbers.{lt_split}
 use Rattle.storage_layout.proofs.Start.{clash}
 
 some_member : (a b : Member) → Some a ≡ Some b → a ≡ b
@@ -61,11 +61,11 @@ module _ (members : List Member) (ties : List Tie) (class offset size : List ℕ
       by_size : (b : Bool) → nat_lt end (last_of class offset size tie) ≡ b
           → (max end (last_of class offset size tie) ≡ 0) ⊎ ((at : ℕ) × (at < count + 1) × IsEndOf members ties class offset size number scope at (max end (last_of class offset size tie)))
       by_size true less =
-          let lt : end < last_of class offset size tie = lt_of end (last_of class offset size tie) less in
+          let lt : end < last_of class offset size tie = ltb-true end (last_of class offset size tie) less in
           let most : last_of class offset size tie ≡ max end (last_of class offset size tie) = omega (arith, lt) in
           inr (count, (omega arith), record { member = member; tie = tie; there = here; tie_there = tie_here; of_block = e; in_scope = f; last = most })
       by_size false more =
-          let le : last_of class offset size tie ≤ end = not_below end (last_of class offset size tie) more in
+          let le : last_of class offset size tie ≤ end = ltb-false end (last_of class offset size tie) more in
           kept_reached (max end (last_of class offset size tie)) (omega (arith, le))
 
   pub greatest_more : (new : ℕ) → new ≡ cond (nat_eq member.block number && nat_eq member.scope scope) (max end (last_of class offset size tie)) end
@@ -73,6 +73,6 @@ module _ (members : List Member) (ties : List Tie) (class offset size : List ℕ
   greatest_more new is = by_case (nat_eq member.block number) (nat_eq member.scope scope) refl refl is
     where
       by_case : (a b : Bool) → nat_eq member.block number ≡ a → nat_eq member.scope scope ≡ b → new ≡ cond (a && b) (max end (last_of class offset size tie)) end → IsGreatest members ties class offset size (count + 1) number scope new
-      by_case true true e f is = subst (λ (k : ℕ). IsGreatest members ties class offset size (count + 1) number scope k) (sym is) (one_more (equal_of member.block number e) (equal_of member.scope scope f))
-      by_case true false e f is = subst (λ (k : ℕ). IsGreatest members ties class offset size (count + 1) number scope k) (sym is) (another (λ _ same. clash (nat_eq member.scope scope) (test_equal member.scope scope same) f))
-      by_case false b e f is = subst (λ (k : ℕ). IsGreatest members ties class offset size (count + 1) number scope k) (sym is) (another (λ same _. clash (nat_eq member.block number) (test_equal member.block number same) e))
+      by_case true true e f is = subst (λ (k : ℕ). IsGreatest members ties class offset size (count + 1) number scope k) (sym is) (one_more (eqb-true member.block number e) (eqb-true member.scope scope f))
+      by_case true false e f is = subst (λ (k : ℕ). IsGreatest members ties class offset size (count + 1) number scope k) (sym is) (another (λ _ same. clash (nat_eq member.scope scope) (eq-eqb member.scope scope same) f))
+      by_case false b e f is = subst (λ (k : ℕ). IsGreatest members ties class offset size (count + 1) number scope k) (sym is) (another (λ same _. clash (nat_eq member.block number) (eq-eqb member.block number same) e))

@@ -5,9 +5,10 @@ use Rattle.std.proofs.lemmas.List.Elements.{Contains-append_left, Contains-appen
 use Rattle.ftn_base.specs.declared.entity.Tie.{Tie}
 use Rattle.ftn_base.specs.Storage.{Thing, Link, object, block, member_link, tie_links, Leads, IsContradicted}
 use Rattle.ftn_base.proofs.WalkLaws.{leads_more}
-use Rattle.storage_layout.specs.declared.given.Object.{Object}
-use Rattle.storage_layout.specs.Members.{Member, start_after, links_after, list_links, links}
-use Rattle.storage_layout.specs.Faults.{IsFirst, IsExtended, AreBlocksJoined, AreMixed}
+use Rattle.ftn_base.specs.declared.storage.Object.{Object}
+use Rattle.ftn_base.specs.declared.storage.Member.{Member}
+use Rattle.ftn_base.specs.StorageMembers.{start_after, links_after, list_links, links}
+use Rattle.ftn_base.specs.StorageFaults.{IsFirst, IsExtended, AreBlocksJoined, AreMixed}
 use Rattle.storage_layout.proofs.Potential.{either}
 use Rattle.storage_layout.proofs.Carried.{tie_from, tie_there}
 

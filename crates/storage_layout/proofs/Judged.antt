@@ -3,18 +3,19 @@ use Rattle.std.proofs.Common.{zero, ◌≡◌, ℕ, ◌+◌, ◌-◌, ◌<◌, �
 use Rattle.std.proofs.lemmas.Int.{ints}
 use Rattle.std.proofs.lemmas.List.{length-append, length-drop, get_or-drop}
 use Rattle.std.proofs.lemmas.List.Elements.{Contains-append_left, Contains-append_right, Contains-append_cases, All-contains}
+use Rattle.std.proofs.lemmas.Bool.{ltb-true, ltb-false}
 use Rattle.ftn_base.specs.declared.entity.Tie.{Tie}
 use Rattle.ftn_base.specs.Storage.{Link, object, member_link, tie_links, IsContradicted}
+use Rattle.ftn_base.specs.Storage.{IsWithin}
+use Rattle.ftn_base.specs.declared.storage.Member.{Member}
+use Rattle.ftn_base.specs.StorageMembers.{start_after, links_after, list_links, links}
+use Rattle.ftn_base.specs.StorageFaults.{IsExtended, AreBlocksJoined}
 use Rattle.equiv_class.specs.Sound as classes
-use Rattle.equiv_class.specs.Sound.{IsWithin}
-use Rattle.storage_layout.specs.Members.{Member, start_after, links_after, list_links, links}
-use Rattle.storage_layout.specs.Numbered.{AreNames, AreMemberTies, AreThings}
-use Rattle.storage_layout.specs.Faults.{IsExtended, AreBlocksJoined}
-use Rattle.storage_layout.specs.Kept.{AreMembers, AreLinkable}
-use Rattle.storage_layout.specs.Held.{HasTwins}
+use Rattle.storage_layout.specs.steps.Numbered.{AreNames, AreMemberTies, AreThings}
+use Rattle.storage_layout.specs.steps.Kept.{AreMembers, AreLinkable}
+use Rattle.storage_layout.specs.steps.Held.{HasTwins}
 use Rattle.storage_layout.proofs.Potential.{either, cons_cases, cons_more}
 use Rattle.storage_layout.proofs.Carried.{contradicts_on}
-use Rattle.storage_layout.proofs.Laid.{lt_of, not_below}
 use Rattle.storage_layout.proofs.Conflict.{take_past}
 use Rattle.storage_layout.proofs.Extending.{IsFarther, extends, not_extended}
 use Rattle.storage_layout.proofs.Twins.{twins_join, join_twins}
@@ -129,9 +130,9 @@ module _ (sizes : List ℕ) (members : List Member) (given : List Tie) (kept_siz
   same_name i j lt_i lt_j e = by_case (nat_lt i j) (nat_lt j i) refl refl
     where
       by_case : (a b : Bool) → nat_lt i j ≡ a → nat_lt j i ≡ b → i ≡ j
-      by_case true b less other = absurd (names_are.once i j 0 (lt_of i j less) lt_j e)
-      by_case false true other less = absurd (names_are.once j i 0 (lt_of j i less) lt_i (sym e))
-      by_case false false one other = let low = not_below i j one in let high = not_below j i other in omega (arith, low, high)
+      by_case true b less other = absurd (names_are.once i j 0 (ltb-true i j less) lt_j e)
+      by_case false true other less = absurd (names_are.once j i 0 (ltb-true j i less) lt_i (sym e))
+      by_case false false one other = let low = ltb-false i j one in let high = ltb-false j i other in omega (arith, low, high)
 
   whole : length kept_sizes ≡ length sizes + length names
   whole = ap length are.sizes_are ∙ length-append sizes are.block_sizes ∙ ap (λ (n : ℕ). length sizes + n) names_are.sized

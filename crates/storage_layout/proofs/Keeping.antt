@@ -6,18 +6,19 @@ use Rattle.std.proofs.lemmas.Option.{slice_get_within}
 use Rattle.std.proofs.lemmas.List.{length-append, append_assoc, get_or-map, get_or_append_left, get_or-append-add, map-append}
 use Rattle.std.proofs.lemmas.List.Elements.{All-nil, All-cons, All-append, All-weaker, All-head, All-tail, filter-append}
 use Rattle.std.proofs.lemmas.List.Sums.{passes_at_first, sum_by-append}
+use Rattle.std.proofs.lemmas.Bool.{eqb-true}
 use Rattle.ftn_base.specs.declared.entity.Tie.{Tie}
 use Rattle.ftn_base.specs.declared.entity.Sort.TheVariants as sort
-use Rattle.equiv_class.specs.Sound.{IsWithin}
-use Rattle.storage_layout.specs.declared.given.Object.{Object}
-use Rattle.storage_layout.specs.declared.given.BlockList.{BlockList}
+use Rattle.ftn_base.specs.Storage.{IsWithin}
+use Rattle.ftn_base.specs.declared.storage.Object.{Object}
+use Rattle.ftn_base.specs.declared.storage.BlockList.{BlockList}
+use Rattle.ftn_base.specs.declared.storage.Member.{Member}
+use Rattle.ftn_base.specs.StorageMembers.{all_members, sizes_of, is_in, units_in}
+use Rattle.ftn_base.specs.StorageGiven.{IsObjectOf, IsTieOf, AreGiven}
+use Rattle.ftn_base.specs.StorageFaults.{AreSmall}
 use Rattle.storage_layout.specs.declared.things.Things.{Things}
-use Rattle.storage_layout.specs.Members.{Member, all_members, sizes_of, is_in, units_in}
-use Rattle.storage_layout.specs.Given.{IsObjectOf, IsTieOf, AreGiven}
-use Rattle.storage_layout.specs.Faults.{AreSmall}
-use Rattle.storage_layout.specs.Numbered.{AreNames, IsMemberTie, AreMemberTies, AreThings}
-use Rattle.storage_layout.specs.Kept.{AreMembers, AreTied, AreLinkable, AreKept, given_of, sizes_in}
-use Rattle.storage_layout.proofs.Carried.{same_number}
+use Rattle.storage_layout.specs.steps.Numbered.{AreNames, IsMemberTie, AreMemberTies, AreThings}
+use Rattle.storage_layout.specs.steps.Kept.{AreMembers, AreTied, AreLinkable, AreKept, given_of, sizes_in}
 use Rattle.storage_layout.proofs.Ending.{units_more}
 use Rattle.storage_layout.proofs.Counted.{length_least, part_sum, objects_few}
 
@@ -90,7 +91,7 @@ module _ (sizes names block_sizes : List ℕ) (all : List Member) (names_are : A
       let known : position_or_len (nat_eq member.block) names < length names = is.known in
       let sized : length block_sizes ≡ length names = names_are.sized in
       let len : length (sizes ++ block_sizes) ≡ length sizes + length block_sizes = length-append sizes block_sizes in
-      let name = same_number member.block (get_or names (position_or_len (nat_eq member.block) names) 0) (passes_at_first (nat_eq member.block) names 0 is.known) in
+      let name = eqb-true member.block (get_or names (position_or_len (nat_eq member.block) names) 0) (passes_at_first (nat_eq member.block) names 0 is.known) in
       let longest : units_in sizes all member.block member.scope ≤ get_or block_sizes (position_or_len (nat_eq member.block) names) 0 =
       subst (λ (k : ℕ). units_in sizes all k member.scope ≤ get_or block_sizes (position_or_len (nat_eq member.block) names) 0) (sym name) (names_are.longest (position_or_len (nat_eq member.block) names) member.scope is.known) in
       let here : units_in sizes (before ++ member ∷ []) member.block member.scope ≡ units_in sizes before member.block member.scope + get_or sizes member.object 0 = units_more sizes before member member.block member.scope (own_list member) in

@@ -6,16 +6,18 @@ use Rattle.std.proofs.lemmas.Bool.Decides.{nat_tests}
 use Rattle.std.proofs.lemmas.List.{length-append, get_or_append_left, get_or-append-add, get_or-take, length-take-le}
 use Rattle.std.proofs.lemmas.List.Elements.{Contains-append_left, Contains-append_cases}
 use Rattle.std.proofs.lemmas.List.Sums.{passes_at_first}
+use Rattle.std.proofs.lemmas.Bool.{eqb-true, ltb-true, ltb-false}
 use Rattle.ftn_base.specs.declared.entity.Tie.{Tie}
 use Rattle.ftn_base.specs.Storage.{Thing, Link, object, block, member_link, tie_links, Leads, AreJoined}
 use Rattle.ftn_base.proofs.WalkLaws.{leads_kept, leads_forward}
+use Rattle.ftn_base.specs.declared.storage.Member.{Member}
+use Rattle.ftn_base.specs.StorageMembers.{units_in, start_after, links_after, list_links, links}
+use Rattle.ftn_base.specs.StorageFaults.{IsExtended, AreBlocksJoined}
+use Rattle.ftn_base.specs.StorageLayout.{AreAreas, AreNumbered, AreApart, AreBegun, AreEnds, AreBlocks, IsSound}
 use Rattle.equiv_class.specs.Sound as classes
-use Rattle.storage_layout.specs.Members.{Member, units_in, start_after, links_after, list_links, links}
-use Rattle.storage_layout.specs.Numbered.{numbered, named, AreMemberTies, AreNames, IsBlockOf, AreBlocksOf}
-use Rattle.storage_layout.specs.Faults.{IsExtended, AreBlocksJoined}
-use Rattle.storage_layout.specs.Laid.{AreAreas, AreNumbered, AreApart, AreBegun, AreEnds, AreBlocks, IsSound}
+use Rattle.storage_layout.specs.steps.Numbered.{numbered, named, AreMemberTies, AreNames, IsBlockOf, AreBlocksOf}
 use Rattle.storage_layout.proofs.Potential.{either, cons_cases}
-use Rattle.storage_layout.proofs.Carried.{walk_on, walk_back, object_named, block_named, same_number, tie_from}
+use Rattle.storage_layout.proofs.Carried.{walk_on, walk_back, object_named, block_named, tie_from}
 use Rattle.storage_layout.proofs.Start.{only_block, none_before}
 use Rattle.storage_layout.proofs.Ending.{ends_all}
 
@@ -25,14 +27,8 @@ no_object a b e = cc e
 pub one_block : (a b : ℕ) → block a ≡ block b → a ≡ b
 one_block a b e = cc e
 
-pub lt_of : (a b : ℕ) → nat_lt a b ≡ true → a < b
-lt_of a b e = grind (arith, nat_tests)
-
-pub not_below : (a b : ℕ) → nat_lt a b ≡ false → b ≤ a
-not_below a b e = grind (arith, nat_tests)
-
 neither : (a b : ℕ) → nat_lt a b ≡ false → nat_lt b a ≡ false → a ≡ b
-neither a b e f = let one = not_below a b e in let other = not_below b a f in omega arith
+neither a b e f = let one = ltb-false a b e in let other = ltb-false b a f in omega arith
 
 above_zero : (a : ℕ) → nat_eq a 0 ≡ false → 0 < a
 above_zero a e = grind (arith, nat_tests)
@@ -117,8 +113,8 @@ module _ (sizes names block_sizes : List ℕ) (members : List Member) (given mem
   same_name i j lt_i lt_j e = by_case (nat_lt i j) (nat_lt j i) refl refl
     where
       by_case : (a b : Bool) → nat_lt i j ≡ a → nat_lt j i ≡ b → i ≡ j
-      by_case true b less other = absurd (names_are.once i j 0 (lt_of i j less) lt_j e)
-      by_case false true other less = absurd (names_are.once j i 0 (lt_of j i less) lt_i (sym e))
+      by_case true b less other = absurd (names_are.once i j 0 (ltb-true i j less) lt_j e)
+      by_case false true other less = absurd (names_are.once j i 0 (ltb-true j i less) lt_i (sym e))
       by_case false false one other = neither i j one other
 
   starts_at : (i : ℕ) → i < length names → (first : ℕ) → first < length (sizes ++ block_sizes) → (by : ℤ) → Leads kept (object (length sizes + i)) (object first) by
@@ -134,7 +130,7 @@ module _ (sizes names block_sizes : List ℕ) (members : List Member) (given mem
       other_block : nat_lt first (length sizes) ≡ false → get_or offset (length sizes + i) 0 ≡ 0
       other_block past =
           let j : ℕ = first - length sizes in
-          let high : length sizes ≤ first = not_below first (length sizes) past in
+          let high : length sizes ≤ first = ltb-false first (length sizes) past in
           let same : length sizes + j ≡ first = omega arith in
           let w = whole in
           let lt_j : j < length names = omega arith in
@@ -144,8 +140,8 @@ module _ (sizes names block_sizes : List ℕ) (members : List Member) (given mem
           ap (λ (k : ℕ). get_or offset (length sizes + k) 0) one ∙ ap (λ (k : ℕ). get_or offset k 0) same ∙ zero_there
 
       by_case : (a b : Bool) → nat_lt first (length sizes) ≡ a → nat_eq (get_or offset (length sizes + i) 0) 0 ≡ b → get_or offset (length sizes + i) 0 ≡ 0
-      by_case a true in_objects e = same_number (get_or offset (length sizes + i) 0) 0 e
-      by_case true false in_objects e = absurd (none_before sizes members given apart (get_or names i 0) not_extended first by (back_block i first by (lt_of first (length sizes) in_objects) walk) (before e))
+      by_case a true in_objects e = eqb-true (get_or offset (length sizes + i) 0) 0 e
+      by_case true false in_objects e = absurd (none_before sizes members given apart (get_or names i 0) not_extended first by (back_block i first by (ltb-true first (length sizes) in_objects) walk) (before e))
       by_case false false past e = other_block past
 
   -- the first unit of a block is that of its class
@@ -184,7 +180,7 @@ module _ (sizes names block_sizes : List ℕ) (members : List Member) (given mem
       (block b) (object v) (pos 0) by walk (inl refl))
 
   name_is : (b : ℕ) → position_or_len (nat_eq b) names < length names → get_or names (position_or_len (nat_eq b) names) 0 ≡ b
-  name_is b lt = sym (same_number b (get_or names (position_or_len (nat_eq b) names) 0) (passes_at_first (nat_eq b) names 0 lt))
+  name_is b lt = sym (eqb-true b (get_or names (position_or_len (nat_eq b) names) 0) (passes_at_first (nat_eq b) names 0 lt))
 
   -- an object that a walk from a block leads to begins as far from the first unit as from the block
   begins : (b v : ℕ) (by : ℤ) → v < length sizes → Leads all (block b) (object v) by → pos (get_or offset v 0) ≡ by
@@ -228,8 +224,8 @@ module _ (sizes names block_sizes : List ℕ) (members : List Member) (given mem
           alone (get_or names j 0) (walk.0, back_block j v walk.0 lt (subst (λ (k : ℕ). Leads kept (object k) (object v) walk.0) (sym at) walk.1))
 
       by_case : (a : Bool) → nat_lt first (length sizes) ≡ a → first < length sizes
-      by_case true e = lt_of first (length sizes) e
-      by_case false e = absurd (beyond (not_below first (length sizes) e))
+      by_case true e = ltb-true first (length sizes) e
+      by_case false e = absurd (beyond (ltb-false first (length sizes) e))
 
   are_begun : AreBegun (length sizes) all (take (length sizes) class) (take (length sizes) offset)
   are_begun = record {
@@ -290,8 +286,8 @@ module _ (sizes names block_sizes : List ℕ) (members : List Member) (given mem
           member_end j lt_j number (ap (λ (k : ℕ). get_or class k 0) at ∙ last.2) (omega arith)
 
       by_case : (a : Bool) → nat_lt last.0 (length sizes) ≡ a → (o : ℕ) × (o < length sizes) × (get_or class o 0 ≡ number) × (get_or offset o 0 + get_or sizes o 0 ≡ get_or size number 0)
-      by_case true e = of_object (lt_of last.0 (length sizes) e)
-      by_case false e = of_block (not_below last.0 (length sizes) e)
+      by_case true e = of_object (ltb-true last.0 (length sizes) e)
+      by_case false e = of_block (ltb-false last.0 (length sizes) e)
 
   are_ends : AreEnds sizes (take (length sizes) class) (take (length sizes) offset) size
   are_ends = record {

@@ -3,18 +3,18 @@ use Rattle.std.proofs.Common.{zero, ◌≡◌, ◌≢◌, ℕ, ◌+◌, ◌-◌,
 use Rattle.std.proofs.lemmas.List.{get_or-take, length-take-le}
 use Rattle.std.proofs.lemmas.List.Elements.{All-contains, All-get_or}
 use Rattle.std.proofs.lemmas.Option.{slice_get_within, slice_get-get_or, get_or_from_slice_get}
+use Rattle.std.proofs.lemmas.Bool.{ltb-true, ltb-false, eqb-true, eqb-false, eq-eqb}
 use Rattle.std.specs.List.Sorted.{IsNonDecreasingBy}
 use Rattle.ftn_base.specs.declared.entity.Sort.{Sort}
 use Rattle.ftn_base.specs.declared.entity.Sort.TheVariants.{Numeric, Character}
-use Rattle.storage_layout.specs.declared.given.Object.{Object}
+use Rattle.ftn_base.specs.declared.storage.Object.{Object}
+use Rattle.ftn_base.specs.StorageFaults.{IsPair}
 use Rattle.storage_layout.specs.declared.span.Span.{Span}
-use Rattle.storage_layout.specs.Faults.{IsPair}
-use Rattle.storage_layout.specs.Reaching.{is_other, further}
-use Rattle.storage_layout.specs.Spans.{IsSpanOf, AreSpans}
-use Rattle.storage_layout.specs.Mixing.{AreMet, reach_over, HasCrossing}
-use Rattle.storage_layout.proofs.Numbers.{equal_of, apart_of, test_equal, test_apart}
+use Rattle.storage_layout.specs.steps.Reaching.{is_other, further}
+use Rattle.storage_layout.specs.steps.Spans.{IsSpanOf, AreSpans}
+use Rattle.storage_layout.specs.steps.Mixing.{AreMet, reach_over, HasCrossing}
+use Rattle.storage_layout.proofs.Numbers.{test_apart}
 use Rattle.storage_layout.proofs.Potential.{either, cons_cases, cons_more}
-use Rattle.storage_layout.proofs.Laid.{lt_of, not_below}
 
 other_sorts : (one other : Sort) → one ≢ other → is_other one other ≡ true
 other_sorts Numeric Numeric apart = absurd (apart refl)
@@ -58,8 +58,8 @@ reach_reached (span ∷ spans) class sort group x less = by_case (reach_reached 
 
     by_size : (x < reach_over spans class sort group → Reaches spans class sort group x) → nat_eq span.class class ≡ true → is_other span.sort sort ≡ true → nat_eq span.group group ≡ false
         → (b : Bool) → nat_lt x span.end ≡ b → x < max (reach_over spans class sort group) span.end → Reaches (span ∷ spans) class sort group x
-    by_size rest e f g true near less = record { span = span; there = (zero, (omega arith), refl); against = record { one_class = equal_of span.class class e; other_sort = f; other_group = apart_of span.group group g }; past = lt_of x span.end near }
-    by_size rest e f g false far less = let high : span.end ≤ x = not_below x span.end far in later (rest (omega (arith, less, high)))
+    by_size rest e f g true near less = record { span = span; there = (zero, (omega arith), refl); against = record { one_class = eqb-true span.class class e; other_sort = f; other_group = eqb-false span.group group g }; past = ltb-true x span.end near }
+    by_size rest e f g false far less = let high : span.end ≤ x = ltb-false x span.end far in later (rest (omega (arith, less, high)))
 
     by_case : (x < reach_over spans class sort group → Reaches spans class sort group x) → (a b c : Bool) → nat_eq span.class class ≡ a → is_other span.sort sort ≡ b → nat_eq span.group group ≡ c
         → x < cond a (cond b (cond c (reach_over spans class sort group) (max (reach_over spans class sort group) span.end)) (reach_over spans class sort group)) (reach_over spans class sort group)
@@ -80,7 +80,7 @@ reach_past (first ∷ spans) span class sort group there is =
     here : IsAgainst first class sort group → first.end ≡ span.end → span.end ≤ reach_over (first ∷ spans) class sort group
     here is e =
         let is_max : reach_over (first ∷ spans) class sort group ≡ max (reach_over spans class sort group) first.end =
-        ap (λ (a : Bool). cond a (further first.sort first.group first.end sort group (reach_over spans class sort group)) (reach_over spans class sort group)) (test_equal first.class class is.one_class)
+        ap (λ (a : Bool). cond a (further first.sort first.group first.end sort group (reach_over spans class sort group)) (reach_over spans class sort group)) (eq-eqb first.class class is.one_class)
         ∙ ap (λ (b : Bool). cond b (cond (nat_eq first.group group) (reach_over spans class sort group) (max (reach_over spans class sort group) first.end)) (reach_over spans class sort group)) is.other_sort
         ∙ ap (λ (d : Bool). cond d (reach_over spans class sort group) (max (reach_over spans class sort group) first.end)) (test_apart first.group group is.other_group) in
         omega (arith, is_max, e)
@@ -144,14 +144,14 @@ module _ (objects : List Object) (class offset group : List ℕ) (spans : List S
           forward = against_from met.v met.w a.0 b.0 met.pair.one met.pair.other a.2 b.2 met.pair.one_there met.pair.other_there met.pair.apart met.one_class met.apart
 
           by_case : (p q : Bool) → nat_lt a.1.0 b.1.0 ≡ p → nat_lt b.1.0 a.1.0 ≡ q → HasCrossing spans
-          by_case true q e f = cross_at a.0 b.0 a.1.0 b.1.0 (lt_of a.1.0 b.1.0 e) b.1.1 a.1.2 b.1.2 forward
+          by_case true q e f = cross_at a.0 b.0 a.1.0 b.1.0 (ltb-true a.1.0 b.1.0 e) b.1.1 a.1.2 b.1.2 forward
               (units_near met.v met.i met.w met.j a.0 b.0 met.pair.one a.2 b.2 met.pair.one_there met.pair.one_unit met.place)
-          by_case false true e f = cross_at b.0 a.0 b.1.0 a.1.0 (lt_of b.1.0 a.1.0 f) a.1.1 b.1.2 a.1.2
+          by_case false true e f = cross_at b.0 a.0 b.1.0 a.1.0 (ltb-true b.1.0 a.1.0 f) a.1.1 b.1.2 a.1.2
               (against_from met.w met.v b.0 a.0 met.pair.other met.pair.one b.2 a.2 met.pair.other_there met.pair.one_there (λ same. met.pair.apart (sym same)) (sym met.one_class) (λ same. met.apart (sym same)))
               (units_near met.w met.j met.v met.i b.0 a.0 met.pair.other b.2 a.2 met.pair.other_there met.pair.other_unit (sym met.place))
           by_case false false e f =
-              let low : b.1.0 ≤ a.1.0 = not_below a.1.0 b.1.0 e in
-              let high : a.1.0 ≤ b.1.0 = not_below b.1.0 a.1.0 f in
+              let low : b.1.0 ≤ a.1.0 = ltb-false a.1.0 b.1.0 e in
+              let high : a.1.0 ≤ b.1.0 = ltb-false b.1.0 a.1.0 f in
               let same = one_at a.0 b.0 a.1.0 b.1.0 (omega (arith, low, high)) a.1.1 a.1.2 b.1.2 in
               absurd (sorts_apart a.0.sort b.0.sort forward.other_sort (ap (λ (s : Span). s.sort) same))
 

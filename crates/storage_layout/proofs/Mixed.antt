@@ -7,12 +7,13 @@ use Rattle.std.proofs.lemmas.Option.{slice_get_within}
 use Rattle.ftn_base.specs.declared.entity.Tie.{Tie}
 use Rattle.ftn_base.specs.Storage.{Thing, Link, object, tie_links, Leads, AreJoined, AreOneUnit, IsContradicted}
 use Rattle.ftn_base.proofs.WalkLaws.{leads_kept, leads_nowhere, leads_on, leads_back, leads_by, leads_more}
+use Rattle.ftn_base.specs.declared.storage.Object.{Object}
+use Rattle.ftn_base.specs.declared.storage.Member.{Member}
+use Rattle.ftn_base.specs.StorageMembers.{sizes_of, list_links, links}
+use Rattle.ftn_base.specs.StorageFaults.{AreMixed}
 use Rattle.equiv_class.specs.Sound as classes
-use Rattle.storage_layout.specs.declared.given.Object.{Object}
-use Rattle.storage_layout.specs.Members.{Member, sizes_of, list_links, links}
-use Rattle.storage_layout.specs.Numbered.{named, AreMemberTies}
-use Rattle.storage_layout.specs.Faults.{AreMixed}
-use Rattle.storage_layout.specs.Mixing.{AreMet}
+use Rattle.storage_layout.specs.steps.Numbered.{named, AreMemberTies}
+use Rattle.storage_layout.specs.steps.Mixing.{AreMet}
 use Rattle.storage_layout.proofs.Numbers.{zero_by}
 use Rattle.storage_layout.proofs.Potential.{lists_agree}
 use Rattle.storage_layout.proofs.Carried.{walk_on, walk_back, object_named, contradicts_on}

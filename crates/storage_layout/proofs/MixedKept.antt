@@ -4,14 +4,15 @@ use Rattle.std.specs.Prelude.{IfOk, Decides}
 use Rattle.std.proofs.lemmas.List.{get_or-map, take-append-le}
 use Rattle.ftn_base.specs.declared.entity.Tie.{Tie}
 use Rattle.ftn_base.specs.Storage.{tie_links, IsContradicted}
+use Rattle.ftn_base.specs.Storage.{IsWithin}
+use Rattle.ftn_base.specs.declared.storage.Object.{Object}
+use Rattle.ftn_base.specs.declared.storage.Member.{Member}
+use Rattle.ftn_base.specs.StorageMembers.{sizes_of, list_links, links}
+use Rattle.ftn_base.specs.StorageFaults.{AreMixed}
 use Rattle.equiv_class.specs.Sound as classes
-use Rattle.equiv_class.specs.Sound.{IsWithin}
-use Rattle.storage_layout.specs.declared.given.Object.{Object}
-use Rattle.storage_layout.specs.Members.{Member, sizes_of, list_links, links}
-use Rattle.storage_layout.specs.Numbered.{AreThings}
-use Rattle.storage_layout.specs.Faults.{AreMixed}
-use Rattle.storage_layout.specs.Kept.{AreMembers}
-use Rattle.storage_layout.specs.Mixing.{AreMet}
+use Rattle.storage_layout.specs.steps.Numbered.{AreThings}
+use Rattle.storage_layout.specs.steps.Kept.{AreMembers}
+use Rattle.storage_layout.specs.steps.Mixing.{AreMet}
 use Rattle.storage_layout.proofs.Conflict.{take_past}
 use Rattle.storage_layout.proofs.Keeping.{sizes_counted, take_front}
 use Rattle.storage_layout.proofs.Parts.{take_among, agree_among, all_among, objects_known, members_known}

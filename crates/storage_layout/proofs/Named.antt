@@ -7,14 +7,15 @@ use Rattle.std.proofs.lemmas.List.{length-append, get_or_append_left, get_or_pus
 use Rattle.std.proofs.lemmas.List.Elements.{Contains-append_left, Contains-push}
 use Rattle.std.proofs.lemmas.List.Quantifiers.{all_pairs_push}
 use Rattle.std.proofs.lemmas.List.Sums.{passes_at_first, fails_before_first, position_or_len_is, prefix_len-le-length, sum_by_push}
+use Rattle.std.proofs.lemmas.Bool.{eqb-true, eq-eqb}
 use Rattle.indexmap.specs.IndexMap.{IndexMap, get}
 use Rattle.indexmap.specs.IndexSet.{insert_key}
 use Rattle.ftn_base.specs.declared.entity.Tie.{Tie}
-use Rattle.storage_layout.specs.Members.{Member, is_in, units_in}
-use Rattle.storage_layout.specs.Numbered.{AreNames, IsMemberTie, AreMemberTies}
-use Rattle.storage_layout.specs.Naming.{is_same, end_in, AreLonger, IsRaised, IsNaming}
-use Rattle.storage_layout.proofs.Carried.{same_number}
-use Rattle.storage_layout.proofs.Start.{clash, numbers_equal}
+use Rattle.ftn_base.specs.declared.storage.Member.{Member}
+use Rattle.ftn_base.specs.StorageMembers.{is_in, units_in}
+use Rattle.storage_layout.specs.steps.Numbered.{AreNames, IsMemberTie, AreMemberTies}
+use Rattle.storage_layout.specs.steps.Naming.{is_same, end_in, AreLonger, IsRaised, IsNaming}
+use Rattle.storage_layout.proofs.Start.{clash}
 use Rattle.storage_layout.proofs.Ending.{units_more, units_same}
 
 -- ---- ends
@@ -93,11 +94,11 @@ module _ (names : List ℕ) (number : ℕ) where
   get_new = by_case inserted
     where
       by_case : ((with_it ≡ names) × (at < length names)) ⊎ ((with_it ≡ names ++ number ∷ []) × (at ≡ length names)) → get_or with_it at 0 ≡ number
-      by_case (inl old) = ap (λ (ks : List ℕ). get_or ks at 0) old.0 ∙ sym (same_number number (get_or names at 0) (passes_at_first (nat_eq number) names 0 old.1))
+      by_case (inl old) = ap (λ (ks : List ℕ). get_or ks at 0) old.0 ∙ sym (eqb-true number (get_or names at 0) (passes_at_first (nat_eq number) names 0 old.1))
       by_case (inr new) = ap (λ (ks : List ℕ). get_or ks at 0) new.0 ∙ get_or_push names number 0 at (sym new.1)
 
   other_before : (i : ℕ) (d : ℕ) → i < at → get_or names i d ≢ number
-  other_before i d lt e = clash (nat_eq number (get_or names i d)) (numbers_equal number (get_or names i d) (sym e)) (fails_before_first (nat_eq number) names i d lt)
+  other_before i d lt e = clash (nat_eq number (get_or names i d)) (eq-eqb number (get_or names i d) (sym e)) (fails_before_first (nat_eq number) names i d lt)
 
   pub once_with : AllPairs (λ earlier later. earlier ≢ later) names → AllPairs (λ earlier later. earlier ≢ later) with_it
   once_with once = by_case inserted
@@ -116,7 +117,7 @@ module _ (names : List ℕ) (number : ℕ) where
       by_case false is =
           let high : at ≤ i = grind (arith, nat_tests) in
           let less : at < i = omega arith in
-          let passes = same_number number (get_or names at 0) (passes_at_first (nat_eq number) names 0 (omega arith)) in
+          let passes = eqb-true number (get_or names at 0) (passes_at_first (nat_eq number) names 0 (omega arith)) in
           once at i 0 less lt (sym passes ∙ sym e)
 
   pub place_kept : (other : ℕ) → position_or_len (nat_eq other) names < length names → position_or_len (nat_eq other) with_it ≡ position_or_len (nat_eq other) names
@@ -132,7 +133,7 @@ module _ (names : List ℕ) (number : ℕ) where
       let most : at ≤ length names = at_most in
       position_or_len_is (nat_eq number) with_it at 0 (omega arith)
       (λ k before. ap (nat_eq number) (get_kept k (omega arith)) ∙ fails_before_first (nat_eq number) names k 0 before)
-      (λ inside. ap (nat_eq number) get_new ∙ numbers_equal number number refl)
+      (λ inside. ap (nat_eq number) get_new ∙ eq-eqb number number refl)
 
 -- ---- one member more
 
@@ -179,7 +180,7 @@ module _ (sizes : List ℕ) (members : List Member) (names block_sizes new_sizes
       by_case : (b : Bool) → nat_lt place (length names) ≡ b → units_in sizes members member.block scope ≤ get_or block_sizes place 0
       by_case true is =
           let lt : place < length names = grind (arith, nat_tests) in
-          let name = same_number member.block (get_or names place 0) (passes_at_first (nat_eq member.block) names 0 lt) in
+          let name = eqb-true member.block (get_or names place 0) (passes_at_first (nat_eq member.block) names 0 lt) in
           subst (λ (k : ℕ). units_in sizes members k scope ≤ get_or block_sizes place 0) (sym name) (naming.names_are.longest place scope lt)
       by_case false is =
           let high : length names ≤ place = grind (arith, nat_tests) in
@@ -187,7 +188,7 @@ module _ (sizes : List ℕ) (members : List Member) (names block_sizes new_sizes
           omega arith
 
   more_here : units_in sizes more member.block member.scope ≡ end member.block member.scope + units
-  more_here = units_more sizes members member member.block member.scope (is_here member.scope member ∙ numbers_equal member.scope member.scope refl) ∙ ap (λ (k : ℕ). k + units) (sym (is_end member.block member.scope))
+  more_here = units_more sizes members member member.block member.scope (is_here member.scope member ∙ eq-eqb member.scope member.scope refl) ∙ ap (λ (k : ℕ). k + units) (sym (is_end member.block member.scope))
 
   after_le : (scope : ℕ) → units_in sizes more member.block scope ≤ get_or new_sizes place 0
   after_le scope = by_case (nat_eq scope member.scope) refl
@@ -197,7 +198,7 @@ module _ (sizes : List ℕ) (members : List Member) (names block_sizes new_sizes
 
       by_case : (b : Bool) → nat_eq scope member.scope ≡ b → units_in sizes more member.block scope ≤ get_or new_sizes place 0
       by_case true e =
-          let same : units_in sizes more member.block scope ≡ end member.block member.scope + units = ap (units_in sizes more member.block) (same_number scope member.scope e) ∙ more_here in
+          let same : units_in sizes more member.block scope ≡ end member.block member.scope + units = ap (units_in sizes more member.block) (eqb-true scope member.scope e) ∙ more_here in
           let at = here in omega arith
       by_case false e =
           let same : units_in sizes more member.block scope ≡ units_in sizes members member.block scope = units_same sizes members member member.block scope (is_here scope member ∙ e) in
@@ -217,7 +218,7 @@ module _ (sizes : List ℕ) (members : List Member) (names block_sizes new_sizes
           by_place : (b : Bool) → nat_lt place (length names) ≡ b → (scope : ℕ) × (units_in sizes members member.block scope ≡ get_or block_sizes place 0)
           by_place true is =
               let lt : place < length names = grind (arith, nat_tests) in
-              let name = same_number member.block (get_or names place 0) (passes_at_first (nat_eq member.block) names 0 lt) in
+              let name = eqb-true member.block (get_or names place 0) (passes_at_first (nat_eq member.block) names 0 lt) in
               let old = naming.names_are.reached place lt in
               (old.0, ap (λ (k : ℕ). units_in sizes members k old.0) name ∙ old.1)
           by_place false is =
@@ -235,7 +236,7 @@ module _ (sizes : List ℕ) (members : List Member) (names block_sizes new_sizes
           by_scope : (scope : ℕ) → units_in sizes members member.block scope ≡ get_or block_sizes place 0 → end member.block member.scope + units < get_or block_sizes place 0 → (c : Bool) → nat_eq scope member.scope ≡ c
               → (scope : ℕ) × (units_in sizes more member.block scope ≡ get_or new_sizes place 0)
           by_scope scope full less true e =
-              let start : end member.block member.scope ≡ units_in sizes members member.block scope = is_end member.block member.scope ∙ ap (units_in sizes members member.block) (sym (same_number scope member.scope e)) in
+              let start : end member.block member.scope ≡ units_in sizes members member.block scope = is_end member.block member.scope ∙ ap (units_in sizes members member.block) (sym (eqb-true scope member.scope e)) in
               absurd (omega (arith, less, start, full))
           by_scope scope full less false e = (scope, units_same sizes members member member.block scope (is_here scope member ∙ e) ∙ full ∙ (let at = here in omega (arith, less, at)))
       by_case false is = (member.scope, more_here ∙ (let high : get_or block_sizes place 0 ≤ end member.block member.scope + units = grind (arith, nat_tests) in let at = here in omega (arith, high, at)))
@@ -256,8 +257,8 @@ module _ (sizes : List ℕ) (members : List Member) (names block_sizes new_sizes
   here_or_not {P} here other i lt = by_case (nat_eq i place) refl
     where
       by_case : (b : Bool) → nat_eq i place ≡ b → P i
-      by_case true e = subst P (sym (same_number i place e)) here
-      by_case false e = let apart : i ≢ place = (λ same. clash (nat_eq i place) (numbers_equal i place same) e) in other i (elsewhere i lt apart) apart
+      by_case true e = subst P (sym (eqb-true i place e)) here
+      by_case false e = let apart : i ≢ place = (λ same. clash (nat_eq i place) (eq-eqb i place same) e) in other i (elsewhere i lt apart) apart
 
   pub next_names : AreNames sizes more new_names new_sizes
   next_names = record {
@@ -295,7 +296,7 @@ module _ (sizes : List ℕ) (members : List Member) (names block_sizes new_sizes
 
       by_case : (a b : Bool) → nat_eq number member.block ≡ a → nat_lt (position_or_len (nat_eq number) names) (length names) ≡ b → units_in sizes more number scope ≡ 0
       by_case true b e is =
-          let at : position_or_len (nat_eq number) new_names ≡ place = ap (λ (k : ℕ). position_or_len (nat_eq k) new_names) (same_number number member.block e) ∙ place_new names member.block in
+          let at : position_or_len (nat_eq number) new_names ≡ place = ap (λ (k : ℕ). position_or_len (nat_eq k) new_names) (eqb-true number member.block e) ∙ place_new names member.block in
           let len = all in absurd (omega (arith, high, at, len))
       by_case false true e is =
           let lt : position_or_len (nat_eq number) names < length names = grind (arith, nat_tests) in
@@ -303,7 +304,7 @@ module _ (sizes : List ℕ) (members : List Member) (names block_sizes new_sizes
           let len = all in absurd (omega (arith, high, at, len, lt))
       by_case false false e is =
           let past : length names ≤ position_or_len (nat_eq number) names = grind (arith, nat_tests) in
-          units_same sizes members member number scope (not_in number scope member (λ same. clash (nat_eq number member.block) (numbers_equal number member.block same) e)) ∙ naming.others number scope past
+          units_same sizes members member number scope (not_in number scope member (λ same. clash (nat_eq number member.block) (eq-eqb number member.block same) e)) ∙ naming.others number scope past
 
   pub next_naming : IsNaming sizes more new_names new_sizes new_end
   next_naming = record { names_are = next_names; ends = new_is_end; others = still_none }

@@ -2,15 +2,7 @@
 use Rattle.std.proofs.Common.{zero, suc, ◌≡◌, ◌≢◌, ◌<◌, ◌+◌, ℕ, ℤ, pos, negsuc, ◌⊎◌, inl, inr, Bool, true, false, nat_eq, refl, arith}
 use Rattle.std.proofs.lemmas.Int.{ints}
 use Rattle.std.proofs.lemmas.Bool.Decides.{nat_tests}
-
-pub equal_of : (a b : ℕ) → nat_eq a b ≡ true → a ≡ b
-equal_of a b e = grind (arith, nat_tests)
-
-pub apart_of : (a b : ℕ) → nat_eq a b ≡ false → a ≢ b
-apart_of a b e = grind (arith, nat_tests)
-
-pub test_equal : (a b : ℕ) → a ≡ b → nat_eq a b ≡ true
-test_equal a b e = grind (arith, nat_tests)
+use Rattle.std.proofs.lemmas.Bool.{eqb-true}
 
 pub test_apart : (a b : ℕ) → a ≢ b → nat_eq a b ≡ false
 test_apart a b e = grind (arith, nat_tests)
@@ -19,7 +11,7 @@ pub lt_split : (v count : ℕ) → v < count + 1 → (v < count) ⊎ (v ≡ coun
 lt_split v count lt = by_case (nat_eq v count) refl
   where
     by_case : (b : Bool) → nat_eq v count ≡ b → (v < count) ⊎ (v ≡ count)
-    by_case true e = inr (equal_of v count e)
+    by_case true e = inr (eqb-true v count e)
     by_case false e = inl (grind (arith, nat_tests, e))
 
 -- what is not other than 0 is 0

@@ -6,14 +6,15 @@ use Rattle.std.proofs.lemmas.List.Elements.{All-get_or}
 use Rattle.std.proofs.lemmas.Option.{slice_get_within, slice_get-get_or, get_or_from_slice_get}
 use Rattle.ftn_base.specs.declared.entity.Tie.{Tie}
 use Rattle.ftn_base.specs.Storage.{Link, object, block, tie_links, Leads, IsContradicted}
+use Rattle.ftn_base.specs.declared.storage.Object.{Object}
+use Rattle.ftn_base.specs.declared.storage.BlockList.{BlockList}
+use Rattle.ftn_base.specs.declared.storage.Member.{Member}
+use Rattle.ftn_base.specs.StorageMembers.{all_members, sizes_of, links}
+use Rattle.ftn_base.specs.StorageGiven.{IsObjectOf, IsTieOf}
+use Rattle.ftn_base.specs.StorageFaults.{AreBlocksJoined, links_in, IsEnd, IsOdd}
 use Rattle.equiv_class.specs.Sound as classes
-use Rattle.storage_layout.specs.declared.given.Object.{Object}
-use Rattle.storage_layout.specs.declared.given.BlockList.{BlockList}
-use Rattle.storage_layout.specs.Members.{Member, all_members, sizes_of, links}
-use Rattle.storage_layout.specs.Numbered.{AreMemberTies}
-use Rattle.storage_layout.specs.Given.{IsObjectOf, IsTieOf}
-use Rattle.storage_layout.specs.Faults.{AreBlocksJoined, links_in, IsEnd, IsOdd}
-use Rattle.storage_layout.specs.Ends.{IsReady, IsUneven, FindsUneven, FindsOdd, OddTold}
+use Rattle.storage_layout.specs.steps.Numbered.{AreMemberTies}
+use Rattle.storage_layout.specs.steps.Ends.{IsReady, IsUneven, FindsUneven, FindsOdd, OddTold}
 use Rattle.storage_layout.proofs.Keeping.{ties_counted}
 use Rattle.storage_layout.proofs.ScopeEnds.{tie_at, there_too, ends_there}
 

@@ -6,12 +6,13 @@ use Rattle.std.proofs.lemmas.List.Elements.{Contains-append_left, Contains-appen
 use Rattle.ftn_base.specs.declared.entity.Tie.{Tie}
 use Rattle.ftn_base.specs.Storage.{IsContradicted, tie_links}
 use Rattle.ftn_base.proofs.WalkLaws.{leads_more}
-use Rattle.equiv_class.specs.Sound.{IsWithin}
+use Rattle.ftn_base.specs.Storage.{IsWithin}
+use Rattle.ftn_base.specs.declared.storage.Member.{Member}
+use Rattle.ftn_base.specs.StorageMembers.{links}
+use Rattle.ftn_base.specs.StorageFaults.{IsFirst}
 use Rattle.equiv_class.specs.Conflicts.{IsConflict}
-use Rattle.storage_layout.specs.Members.{Member, links}
-use Rattle.storage_layout.specs.Numbered.{AreThings}
-use Rattle.storage_layout.specs.Faults.{IsFirst}
-use Rattle.storage_layout.specs.Kept.{AreMembers, AreLinkable}
+use Rattle.storage_layout.specs.steps.Numbered.{AreThings}
+use Rattle.storage_layout.specs.steps.Kept.{AreMembers, AreLinkable}
 pub use Rattle.storage_layout.proofs.Growing.{AreAmong, links_among}
 use Rattle.storage_layout.proofs.Conflict.{conflict}
 

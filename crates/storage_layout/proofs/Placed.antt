@@ -4,9 +4,10 @@ use Rattle.std.proofs.lemmas.Grind.{flat_map-append}
 use Rattle.std.proofs.lemmas.List.{length-append, take_more, append-nil}
 use Rattle.std.proofs.lemmas.List.Concat.{flat_map-cons}
 use Rattle.std.proofs.lemmas.Option.{slice_get-get_or}
-use Rattle.storage_layout.specs.declared.given.BlockList.{BlockList}
-use Rattle.storage_layout.specs.Members.{Member, members_of, all_members}
-use Rattle.storage_layout.specs.Told.{IsPlace}
+use Rattle.ftn_base.specs.declared.storage.BlockList.{BlockList}
+use Rattle.ftn_base.specs.declared.storage.Member.{Member}
+use Rattle.ftn_base.specs.StorageMembers.{members_of, all_members}
+use Rattle.ftn_base.specs.StorageFaults.{IsPlace}
 
 members_counted : (block scope : ℕ) (objects : List ℕ) → length (map {B = Member} (λ object. record { block = block; scope = scope; object = object }) objects) ≡ length objects
 members_counted block scope [] = refl

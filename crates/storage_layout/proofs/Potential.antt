@@ -4,7 +4,8 @@ use Rattle.std.proofs.lemmas.Int.{ints}
 use Rattle.std.proofs.lemmas.Bool.Decides.{nat_tests}
 use Rattle.ftn_base.specs.Storage.{Thing, Link, object, block, member_link, Leads, IsContradicted}
 use Rattle.ftn_base.proofs.WalkLaws.{leads_kept}
-use Rattle.storage_layout.specs.Members.{Member, start_after, links_after, list_links}
+use Rattle.ftn_base.specs.declared.storage.Member.{Member}
+use Rattle.ftn_base.specs.StorageMembers.{start_after, links_after, list_links}
 
 pub either : {A B C : Type 0} → (A → C) → (B → C) → A ⊎ B → C
 either left right (inl a) = left a

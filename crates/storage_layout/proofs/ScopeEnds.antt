@@ -6,21 +6,22 @@ use Rattle.std.proofs.lemmas.Int.{ints}
 use Rattle.std.proofs.lemmas.List.{length-append, length-map, get_or_append_left, get_or_past, append-nil, append_assoc}
 use Rattle.std.proofs.lemmas.List.Elements.{All-contains, All-get_or, Contains-append_left, Contains-append_right, Contains-append_cases}
 use Rattle.std.proofs.lemmas.Option.{slice_get_within, slice_get_past, get_or_from_slice_get}
+use Rattle.std.proofs.lemmas.Bool.{ltb-true, ltb-false, eq-eqb}
 use Rattle.ftn_base.specs.declared.entity.Tie.{Tie}
 use Rattle.ftn_base.specs.Storage.{Thing, Link, object, block, tie_link, tie_links, Leads, IsContradicted}
 use Rattle.ftn_base.proofs.WalkLaws.{leads_kept, leads_nowhere, leads_on, leads_by, leads_forward, leads_backward, leads_more}
+use Rattle.ftn_base.specs.declared.storage.Object.{Object}
+use Rattle.ftn_base.specs.declared.storage.Member.{Member}
+use Rattle.ftn_base.specs.StorageMembers.{sizes_of, start_after, list_links, links}
+use Rattle.ftn_base.specs.StorageGiven.{IsObjectOf, IsTieOf}
+use Rattle.ftn_base.specs.StorageFaults.{AreBlocksJoined, is_of, is_tie_in, links_in, IsEnd}
 use Rattle.equiv_class.specs.Sound as classes
-use Rattle.storage_layout.specs.declared.given.Object.{Object}
-use Rattle.storage_layout.specs.Members.{Member, sizes_of, start_after, list_links, links}
-use Rattle.storage_layout.specs.Numbered.{IsMemberTie, AreMemberTies}
-use Rattle.storage_layout.specs.Given.{IsObjectOf, IsTieOf}
-use Rattle.storage_layout.specs.Faults.{AreBlocksJoined, is_of, is_tie_in, links_in, IsEnd}
-use Rattle.storage_layout.specs.Ends.{last_of, IsEndOf, IsGreatest}
+use Rattle.storage_layout.specs.steps.Numbered.{IsMemberTie, AreMemberTies}
+use Rattle.storage_layout.specs.steps.Ends.{last_of, IsEndOf, IsGreatest}
 use Rattle.storage_layout.proofs.Numbers.{zero_by}
 use Rattle.storage_layout.proofs.Potential.{either, cons_cases, cons_more}
 use Rattle.storage_layout.proofs.Carried.{tie_from, tie_there}
-use Rattle.storage_layout.proofs.Laid.{lt_of, not_below}
-use Rattle.storage_layout.proofs.Start.{filter_first, filter_other, numbers_equal, only_block}
+use Rattle.storage_layout.proofs.Start.{filter_first, filter_other, only_block}
 use Rattle.storage_layout.proofs.ScopeLinks.{there_in, link_at, link_there, scope_link, link_placed, some_member}
 
 -- ---- what is kept of a list
@@ -80,14 +81,14 @@ some_number a b e = cc e
 
 of_scope_too : (scope : ℕ) (found : Option Object) → option_map (λ (o : Object). o.scope) found ≡ Some scope → is_of scope found ≡ true
 of_scope_too scope None e = absurd (cc e)
-of_scope_too scope (Some o) e = numbers_equal o.scope scope (some_number o.scope scope e)
+of_scope_too scope (Some o) e = eq-eqb o.scope scope (some_number o.scope scope e)
 
 pub there_too : (objects : List Object) (v scope : ℕ) → IsObjectOf objects scope v → v < length objects
 there_too objects v scope e = by_case (nat_lt v (length objects)) refl
   where
     by_case : (b : Bool) → nat_lt v (length objects) ≡ b → v < length objects
-    by_case true lt = lt_of v (length objects) lt
-    by_case false past = absurd (cc (sym e ∙ ap (option_map (λ (o : Object). o.scope)) (slice_get_past objects v (not_below v (length objects) past))))
+    by_case true lt = ltb-true v (length objects) lt
+    by_case false past = absurd (cc (sym e ∙ ap (option_map (λ (o : Object). o.scope)) (slice_get_past objects v (ltb-false v (length objects) past))))
 
 -- an object that begins so far from the block ends within what its class tells
 close : (start class_end from at units end : ℕ) (by : ℤ) → pos 0 +ℤ by ≡ pos start +ℤ (pos at -ℤ pos from) → start + (class_end - from) ≤ end → at + units ≤ class_end → from ≤ class_end → (by +ℤ pos units) ≤ℤ pos end
@@ -244,8 +245,8 @@ module _ (objects : List Object) (block_sizes : List ℕ) (members : List Member
   units_within v = by_case (nat_lt v (length (sizes_of objects))) refl
     where
       by_case : (b : Bool) → nat_lt v (length (sizes_of objects)) ≡ b → get_or (sizes_of objects) v 0 ≤ get_or (sizes_of objects ++ block_sizes) v 0
-      by_case true e = let same = get_or_append_left (sizes_of objects) block_sizes 0 v (lt_of v (length (sizes_of objects)) e) in omega (arith, same)
-      by_case false e = let none : get_or (sizes_of objects) v 0 ≡ 0 = get_or_past (sizes_of objects) v 0 (not_below v (length (sizes_of objects)) e) in omega (arith, none)
+      by_case true e = let same = get_or_append_left (sizes_of objects) block_sizes 0 v (ltb-true v (length (sizes_of objects)) e) in omega (arith, same)
+      by_case false e = let none : get_or (sizes_of objects) v 0 ≡ 0 = get_or_past (sizes_of objects) v 0 (ltb-false v (length (sizes_of objects)) e) in omega (arith, none)
 
   module _ (end : ℕ) (greatest : IsGreatest members kept class offset size (length members) number scope end) where
     within : (v : ℕ) (by : ℤ) → Leads own (block number) (object v) by → (by +ℤ pos (get_or (sizes_of objects) v 0)) ≤ℤ pos end

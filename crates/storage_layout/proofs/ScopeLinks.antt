@@ -3,11 +3,12 @@ use Rattle.std.proofs.Common.{zero, suc, ◌≡◌, ℕ, List, [], ◌∷◌, �
 use Rattle.std.proofs.lemmas.Bool.Decides.{nat_tests}
 use Rattle.std.proofs.lemmas.List.{append-nil, append_assoc}
 use Rattle.std.proofs.lemmas.List.Elements.{filter-append}
+use Rattle.std.proofs.lemmas.Bool.{eqb-true, eq-eqb}
 use Rattle.ftn_base.specs.Storage.{Link, member_link}
-use Rattle.storage_layout.specs.Members.{Member, is_in, units_in, start_after, links_after}
+use Rattle.ftn_base.specs.declared.storage.Member.{Member}
+use Rattle.ftn_base.specs.StorageMembers.{is_in, units_in, start_after, links_after}
 use Rattle.storage_layout.proofs.Potential.{either, cons_cases, cons_more}
-use Rattle.storage_layout.proofs.Start.{filter_twice, filter_first, filter_other, numbers_equal}
-use Rattle.storage_layout.proofs.Numbers.{equal_of}
+use Rattle.storage_layout.proofs.Start.{filter_twice, filter_first, filter_other}
 
 abbrev pub of_scope : ℕ → Member → Bool
 of_scope scope member = nat_eq member.scope scope
@@ -64,7 +65,7 @@ pub scope_link : (sizes : List ℕ) (scope : ℕ) (before after members : List M
 scope_link sizes scope before after [] same at member here e = absurd (no_member member here)
 scope_link sizes scope before after (first ∷ rest) same zero member here e =
     let one : first ≡ member = some_member first member here in
-    let kept : there_in scope (first ∷ rest) ≡ first ∷ there_in scope rest = filter_first (of_scope scope) first rest (numbers_equal first.scope scope (ap (λ (m : Member). m.scope) one ∙ e)) in
+    let kept : there_in scope (first ∷ rest) ≡ first ∷ there_in scope rest = filter_first (of_scope scope) first rest (eq-eqb first.scope scope (ap (λ (m : Member). m.scope) one ∙ e)) in
     subst (λ (ms : List Member). Contains (links_after sizes after ms) (link_at sizes before (first ∷ rest) zero member)) (sym kept) (
       zero,
       (omega arith),
@@ -123,7 +124,7 @@ link_placed sizes scope before after (first ∷ rest) same link there =
         → (after ≡ there_in scope (before ++ first ∷ []) → Contains (links_after sizes after (there_in scope rest)) link → IsPlaced sizes scope (before ++ first ∷ []) rest link)
         → (b : Bool) → of_scope scope first ≡ b → IsPlaced sizes scope before (first ∷ rest) link
     by_scope with_it without_it true f =
-        let e : first.scope ≡ scope = equal_of first.scope scope f in
+        let e : first.scope ≡ scope = eqb-true first.scope scope f in
         either
         (λ is. record {
           at = zero;

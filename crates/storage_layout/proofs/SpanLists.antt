@@ -3,9 +3,9 @@ use Rattle.std.proofs.Common.{◌≡◌, ℕ, ◌+◌, ◌<◌, List, [], ◌∷
 use Rattle.std.proofs.lemmas.List.Elements.{All-push, All-weaker, Contains-push, Contains-append_left}
 use Rattle.std.proofs.lemmas.List.Sorted.{All-permutation, Contains-permutation}
 use Rattle.std.specs.List.Sorted.{IsPermutation}
-use Rattle.storage_layout.specs.declared.given.Object.{Object}
+use Rattle.ftn_base.specs.declared.storage.Object.{Object}
 use Rattle.storage_layout.specs.declared.span.Span.{Span}
-use Rattle.storage_layout.specs.Spans.{IsSpanOf, AreSpans}
+use Rattle.storage_layout.specs.steps.Spans.{IsSpanOf, AreSpans}
 use Rattle.storage_layout.proofs.Numbers.{lt_split}
 
 pub ends_there : (end start units offset : ℕ) → start ≡ offset → end ≡ start + units → end ≡ offset + units

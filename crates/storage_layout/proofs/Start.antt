@@ -4,11 +4,13 @@ use Rattle.std.proofs.lemmas.Int.{ints}
 use Rattle.std.proofs.lemmas.Bool.Decides.{nat_tests}
 use Rattle.std.proofs.lemmas.List.Elements.{Contains-append_left, Contains-append_right, Contains-append_cases, filter-append}
 use Rattle.std.proofs.lemmas.List.{append-nil}
+use Rattle.std.proofs.lemmas.Bool.{eqb-true, eq-eqb}
 use Rattle.ftn_base.specs.declared.entity.Tie.{Tie}
 use Rattle.ftn_base.specs.Storage.{Thing, Link, object, block, member_link, tie_links, Leads}
 use Rattle.ftn_base.proofs.WalkLaws.{leads_kept, leads_nowhere, leads_on, leads_by, leads_forward, leads_backward}
-use Rattle.storage_layout.specs.Members.{Member, is_in, units_in, start_after, links_after, list_links, links}
-use Rattle.storage_layout.specs.Faults.{IsExtended, AreBlocksJoined}
+use Rattle.ftn_base.specs.declared.storage.Member.{Member}
+use Rattle.ftn_base.specs.StorageMembers.{is_in, units_in, start_after, links_after, list_links, links}
+use Rattle.ftn_base.specs.StorageFaults.{IsExtended, AreBlocksJoined}
 use Rattle.storage_layout.proofs.Potential.{either, cons_cases, cons_more}
 
 abbrev pub of_block : ℕ → Member → Bool
@@ -42,12 +44,6 @@ filter_first p x xs e = grind arith
 
 pub filter_other : {X : Type 0} (p : X → Bool) (x : X) (xs : List X) → p x ≡ false → filter p (x ∷ xs) ≡ filter p xs
 filter_other p x xs e = grind arith
-
-equal_numbers : (a b : ℕ) → nat_eq a b ≡ true → a ≡ b
-equal_numbers a b e = grind (arith, nat_tests)
-
-pub numbers_equal : (a b : ℕ) → a ≡ b → nat_eq a b ≡ true
-numbers_equal a b e = grind (arith, nat_tests)
 
 one_block : (a b : ℕ) → block a ≡ block b → a ≡ b
 one_block a b e = cc e
@@ -89,7 +85,7 @@ link_kept sizes number before after (member ∷ rest) same link there from =
         let first : kept number (member ∷ rest) ≡ member ∷ kept number rest = filter_first (of_block number) member rest e in
         let more : after ++ member ∷ [] ≡ kept number (before ++ member ∷ []) =
         ap (λ (ms : List Member). ms ++ member ∷ []) same ∙ ap (λ (ms : List Member). kept number before ++ ms) (sym (filter_first (of_block number) member [] e)) ∙ sym (filter-append (of_block number) before (member ∷ [])) in
-        let number_is : member.block ≡ number = equal_numbers member.block number e in
+        let number_is : member.block ≡ number = eqb-true member.block number e in
         subst (λ (ms : List Member). Contains (links_after sizes after ms) link) (sym first)
         (either
         (λ is. (zero, (omega arith), ap (member_link member.block member.object) (start_same number_is) ∙ is))
@@ -101,7 +97,7 @@ link_kept sizes number before after (member ∷ rest) same link there from =
         same ∙ sym (append-nil (kept number before)) ∙ ap (λ (ms : List Member). kept number before ++ ms) (sym (filter_other (of_block number) member [] e)) ∙ sym (filter-append (of_block number) before (member ∷ [])) in
         subst (λ (ms : List Member). Contains (links_after sizes after ms) link) (sym others)
         (either
-        (λ is. absurd (clash (nat_eq member.block number) (numbers_equal member.block number (one_block member.block number (ap (λ (l : Link). l.from) is ∙ from))) e))
+        (λ is. absurd (clash (nat_eq member.block number) (eq-eqb member.block number (one_block member.block number (ap (λ (l : Link). l.from) is ∙ from))) e))
         (λ later. without_it more later from)
         (cons_cases this (links_after sizes (before ++ member ∷ []) rest) link there))
 
@@ -123,8 +119,8 @@ module _ (sizes : List ℕ) (members : List Member) (ties : List Tie) (apart : A
   only_block other by walk = by_case (nat_eq number other) refl
     where
       by_case : (b : Bool) → nat_eq number other ≡ b → number ≡ other
-      by_case true e = equal_numbers number other e
-      by_case false e = absurd (apart (record { one = number; other = other; apart = λ same. clash (nat_eq number other) (numbers_equal number other same) e; walk = (by, walk) }))
+      by_case true e = eqb-true number other e
+      by_case false e = absurd (apart (record { one = number; other = other; apart = λ same. clash (nat_eq number other) (eq-eqb number other same) e; walk = (by, walk) }))
 
   -- a link that such a walk meets at its block is one of the block's own lists, or a tie
   link_own : (link : Link) → Contains all link → ((other : ℕ) → link.from ≡ block other → number ≡ other) → Contains own link

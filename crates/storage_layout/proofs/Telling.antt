@@ -3,22 +3,24 @@ use Rattle.std.proofs.Common.{◌≡◌, ℕ, ◌+◌, ◌<◌, List, [], ◌++�
 use Rattle.std.specs.Prelude.{IfErr}
 use Rattle.ftn_base.specs.declared.entity.Tie.{Tie}
 use Rattle.ftn_base.specs.Storage.{IsContradicted, tie_links}
+use Rattle.ftn_base.specs.declared.storage.Object.{Object}
+use Rattle.ftn_base.specs.declared.storage.BlockList.{BlockList}
+use Rattle.ftn_base.specs.declared.storage.Member.{Member}
+use Rattle.ftn_base.specs.StorageMembers.{all_members, sizes_of, list_links, links}
+use Rattle.ftn_base.specs.StorageFaults.{IsFirst, IsExtended, AreBlocksJoined, AreMixed}
+use Rattle.ftn_base.specs.StorageGiven.{IsObjectOf, IsTieOf}
+use Rattle.ftn_base.specs.StorageFaults.{IsPlace, TieTold, MemberTold, IsApart}
 use Rattle.equiv_class.specs.Sound as classes
-use Rattle.storage_layout.specs.declared.given.Object.{Object}
-use Rattle.storage_layout.specs.declared.given.BlockList.{BlockList}
 use Rattle.storage_layout.specs.declared.things.Things.{Things}
 use Rattle.storage_layout.specs.declared.kind.Kind.{Kind}
 use Rattle.storage_layout.specs.declared.kind.Kind.TheVariants as kind
 use Rattle.storage_layout.specs.declared.fault.LayoutFault.{LayoutFault}
 use Rattle.storage_layout.specs.declared.fault.LayoutFault.TheVariants as fault
-use Rattle.storage_layout.specs.Members.{Member, all_members, sizes_of, list_links, links}
-use Rattle.storage_layout.specs.Faults.{IsFirst, IsExtended, AreBlocksJoined, AreMixed}
-use Rattle.storage_layout.specs.Given.{IsObjectOf, IsTieOf}
-use Rattle.storage_layout.specs.Numbered.{AreMemberTies}
-use Rattle.storage_layout.specs.Ends.{IsReady, FindsOdd, OddTold}
-use Rattle.storage_layout.specs.Kept.{AreKept, given_of, sizes_in}
-use Rattle.storage_layout.specs.Held.{IsFirstWith}
-use Rattle.storage_layout.specs.Told.{IsPlace, TieTold, MemberTold, IsApart, IsTrueFault}
+use Rattle.storage_layout.specs.steps.Numbered.{AreMemberTies}
+use Rattle.storage_layout.specs.steps.Ends.{IsReady, FindsOdd, OddTold}
+use Rattle.storage_layout.specs.steps.Kept.{AreKept, given_of, sizes_in}
+use Rattle.storage_layout.specs.steps.Held.{IsFirstWith}
+use Rattle.storage_layout.specs.Faults.{IsTrueFault}
 use Rattle.storage_layout.proofs.Carried.{contradicts_on}
 use Rattle.storage_layout.proofs.Growing.{is_first, extended_more, joined_more, mixed_more, mixed_members_more}
 use Rattle.storage_layout.proofs.Parts.{objects_known, members_known}

@@ -3,14 +3,16 @@ use Rattle.std.proofs.Common.{◌≡◌, ◌≢◌, ℕ, ◌+◌, ◌<◌, ℤ, 
 use Rattle.std.specs.List.{position_or_len}
 use Rattle.std.proofs.lemmas.List.Elements.{Contains-append_cases}
 use Rattle.std.proofs.lemmas.List.Sums.{passes_at_first}
+use Rattle.std.proofs.lemmas.Bool.{eqb-true}
 use Rattle.ftn_base.specs.declared.entity.Tie.{Tie}
 use Rattle.ftn_base.specs.Storage.{Thing, Link, object, block, tie_links, Leads, AreJoined}
 use Rattle.ftn_base.proofs.WalkLaws.{leads_kept, leads_back}
-use Rattle.storage_layout.specs.Members.{Member, list_links, links}
-use Rattle.storage_layout.specs.Numbered.{named, AreMemberTies}
-use Rattle.storage_layout.specs.Faults.{AreBlocksJoined}
+use Rattle.ftn_base.specs.declared.storage.Member.{Member}
+use Rattle.ftn_base.specs.StorageMembers.{list_links, links}
+use Rattle.ftn_base.specs.StorageFaults.{AreBlocksJoined}
+use Rattle.storage_layout.specs.steps.Numbered.{named, AreMemberTies}
 use Rattle.storage_layout.proofs.Potential.{either}
-use Rattle.storage_layout.proofs.Carried.{walk_on, walk_back, block_named, same_number, tie_from}
+use Rattle.storage_layout.proofs.Carried.{walk_on, walk_back, block_named, tie_from}
 use Rattle.storage_layout.proofs.Laid.{no_object, one_block, known_from, to_object}
 
 -- two blocks whose kept numbers a walk joins
@@ -68,7 +70,7 @@ module _ (names sizes : List ℕ) (members : List Member) (given member_ties : L
       (block b) (block other) (pos 0) by walk (inl refl))
 
   name_is : (b : ℕ) → position_or_len (nat_eq b) names < length names → get_or names (position_or_len (nat_eq b) names) 0 ≡ b
-  name_is b lt = sym (same_number b (get_or names (position_or_len (nat_eq b) names) 0) (passes_at_first (nat_eq b) names 0 lt))
+  name_is b lt = sym (eqb-true b (get_or names (position_or_len (nat_eq b) names) 0) (passes_at_first (nat_eq b) names 0 lt))
 
   pub join_twins : AreBlocksJoined sizes members given → AreTwins (length sizes) names (member_ties ++ given)
   join_twins it =

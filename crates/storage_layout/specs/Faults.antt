@@ -1,103 +1,20 @@
--- What is wrong with lists and ties (Fortran 90, 5.5.1, 5.5.2.3, 5.5.2.4).
-use Rattle.std.specs.Prelude.{ℕ, ◌+◌, ◌≤◌, ◌<◌, ◌^◌, ◌≡◌, ◌≢◌, ◌⊎◌, ℤ, pos, ◌+ℤ◌, ◌-ℤ◌, ◌<ℤ◌, ◌≤ℤ◌, Bool, true, false, List, length, filter, sum, take, nat_eq, slice_get, slice_index, Some, None, Option}
+-- Which fault is told.
+use Rattle.std.specs.Prelude.{ℕ, ◌≡◌, List, None}
 use Rattle.ftn_base.specs.declared.entity.Tie.{Tie}
-use Rattle.ftn_base.specs.Storage.{Link, object, block, Leads, AreJoined, AreOneUnit}
-use Rattle.storage_layout.specs.declared.given.Object.{Object}
-use Rattle.storage_layout.specs.declared.given.BlockList.{BlockList}
-use Rattle.storage_layout.specs.Members.{Member, all_members, sizes_of, links}
+use Rattle.ftn_base.specs.declared.storage.Object.{Object}
+use Rattle.ftn_base.specs.declared.storage.BlockList.{BlockList}
+use Rattle.ftn_base.specs.StorageFaults.{AreSmall, Contradicts, Extends, IsApart, IsBegun, IsConsistent, IsFirst, IsFirstOdd, IsFirstTooLarge, IsSorted, JoinsBlocks, MemberTold, TieTold}
+use Rattle.ftn_base.specs.StorageMembers.{sizes_of}
+use Rattle.storage_layout.specs.declared.fault.LayoutFault.{LayoutFault}
+use Rattle.storage_layout.specs.declared.fault.LayoutFault.TheVariants as fault
 
--- ---- too many units
-
--- the object takes more than 2^20 units, or all up to it take more than 2^24
-abbrev pub IsPastLimit : List ℕ → ℕ → Type 0
-IsPastLimit sizes number = (2 ^ 20 < slice_index sizes number) ⊎ (2 ^ 24 < sum (take (number + 1) sizes))
-
-pub record IsFirstTooLarge (sizes : List ℕ) (number : ℕ) : Type 0 where
-  pub there : number < length sizes
-  pub here : IsPastLimit sizes number
-  pub before : (earlier : ℕ) → earlier < number → IsPastLimit sizes earlier → ⊥
-
-abbrev pub AreSmall : List ℕ → Type 0
-AreSmall sizes = (number : ℕ) → number < length sizes → IsPastLimit sizes number → ⊥
-
--- ---- the first entry of a list with which something holds
-
--- with the entries up to and with this one, and with no fewer
-pub record IsFirst {X : Type 0} (Holds : List X → Type 0) (entries : List X) (number : ℕ) : Type 0 where
-  pub there : number < length entries
-  pub here : Holds (take (number + 1) entries)
-  pub before : (fewer : ℕ) → fewer ≤ number → Holds (take fewer entries) → ⊥
-
--- ---- ties
-
--- a walk from a block through no other block leads to an object that begins before the block's first unit
-pub record IsExtended (sizes : List ℕ) (members : List Member) (ties : List Tie) : Type 0 where
-  pub number : ℕ
-  pub reached : ℕ
-  pub by : ℤ
-  pub before : by <ℤ pos 0
-  pub walk : Leads (links sizes (filter (λ member. nat_eq member.block number) members) ties) (block number) (object reached) by
-
--- a walk leads from one block to another
-pub record AreBlocksJoined (sizes : List ℕ) (members : List Member) (ties : List Tie) : Type 0 where
-  pub one : ℕ
-  pub other : ℕ
-  pub apart : one ≢ other
-  pub walk : AreJoined (links sizes members ties) (block one) (block other)
-
--- a unit of a numeric object and a unit of a character object
-pub record IsPair (objects : List Object) (v i w j : ℕ) : Type 0 where
-  pub one : Object
-  pub other : Object
-  pub one_there : slice_get objects v ≡ Some one
-  pub other_there : slice_get objects w ≡ Some other
-  pub one_unit : i < one.units
-  pub other_unit : j < other.units
-  pub apart : one.sort ≢ other.sort
-
--- units of both sorts are one by these links, and were not by those
-pub record AreMixed (objects : List Object) (those these : List Link) : Type 0 where
-  pub v : ℕ
-  pub i : ℕ
-  pub w : ℕ
-  pub j : ℕ
-  pub pair : IsPair objects v i w j
-  pub now : AreOneUnit these (object v) i (object w) j
-  pub before : AreOneUnit those (object v) i (object w) j → ⊥
-
--- ---- ends of blocks
-
-abbrev pub is_of : ℕ → Option Object → Bool
-is_of scope None = false
-is_of scope (Some found) = nat_eq found.scope scope
-
--- the tie is one of the scoping unit, by its first object
-abbrev pub is_tie_in : List Object → ℕ → Tie → Bool
-is_tie_in objects scope tie = is_of scope (slice_get objects tie.a)
-
--- the links of one scoping unit's lists and ties
-abbrev pub links_in : List Object → List Member → List Tie → ℕ → List Link
-links_in objects members ties scope = links (sizes_of objects) (filter (λ member. nat_eq member.scope scope) members) (filter (is_tie_in objects scope) ties)
-
--- the block ends there: it is the greatest end of the objects that walks from it over these links lead to, or 0
--- where there is none
-pub record IsEnd (sizes : List ℕ) (some : List Link) (number end : ℕ) : Type 0 where
-  pub within : (v : ℕ) (by : ℤ) → Leads some (block number) (object v) by → (by +ℤ pos (slice_index sizes v)) ≤ℤ pos end
-  pub reached : (end ≡ 0) ⊎ ((v : ℕ) × Leads some (block number) (object v) (pos end -ℤ pos (slice_index sizes v)))
-
--- the list is of a named block, which ends elsewhere in the list's scoping unit than in that of the block's first list
-pub record IsOdd (objects : List Object) (blocks : List BlockList) (ties : List Tie) (number : ℕ) : Type 0 where
-  pub list : BlockList
-  pub first : BlockList
-  pub there : slice_get blocks number ≡ Some list
-  pub first_there : slice_get (filter (λ other. nat_eq other.block list.block) blocks) 0 ≡ Some first
-  pub named : list.named ≡ true
-  pub here : ℕ
-  pub first_here : ℕ
-  pub ends : IsEnd (sizes_of objects) (links_in objects (all_members blocks) ties list.scope) list.block here
-  pub first_ends : IsEnd (sizes_of objects) (links_in objects (all_members blocks) ties first.scope) list.block first_here
-  pub apart : here ≢ first_here
-
-pub record IsFirstOdd (objects : List Object) (blocks : List BlockList) (ties : List Tie) (number : ℕ) : Type 0 where
-  pub odd : IsOdd objects blocks ties number
-  pub before : (earlier : ℕ) → earlier < number → IsOdd objects blocks ties earlier → ⊥
+-- each fault comes exactly where it is the first of its kind, and no fault of an earlier kind is there
+abbrev pub IsTrueFault : List Object → List BlockList → List Tie → LayoutFault → Type 0
+IsTrueFault objects blocks ties (fault.TooLarge number) = IsFirstTooLarge (sizes_of objects) number
+IsTrueFault objects blocks ties (fault.Conflict tie) = AreSmall (sizes_of objects) × IsFirst (Contradicts objects blocks ties) ties tie
+IsTrueFault objects blocks ties (fault.BeforeStart tie) = IsConsistent objects blocks ties × IsFirst (Extends objects blocks ties) ties tie
+IsTrueFault objects blocks ties (fault.TwoBlocks tie) = IsBegun objects blocks ties × IsFirst (JoinsBlocks objects blocks ties) ties tie
+IsTrueFault objects blocks ties (fault.SortMismatch tie member) =
+    IsApart objects blocks ties × TieTold objects blocks ties tie × MemberTold objects blocks ties member × (((tie ≡ None) × (member ≡ None)) → ⊥)
+IsTrueFault objects blocks ties (fault.CommonSize list) = IsSorted objects blocks ties × IsFirstOdd objects blocks ties list
+IsTrueFault objects blocks ties fault.NoMemory = Unit

@@ -1,15 +1,2 @@
-pub mod Members
-pub mod Given
 pub mod Faults
-pub mod Laid
-pub mod Told
-pub mod Numbered
-pub mod Naming
-pub mod Kept
-pub mod Held
-pub mod Beside
-pub mod Reaching
-pub mod Spans
-pub mod Mixing
-pub mod EndTable
-pub mod Ends
+pub mod steps

@@ -3,14 +3,13 @@
 ghost use Rattle.std.specs.Prelude.{◌≡◌, ◌≢◌, ◌<◌, ◌^◌, ℕ, Some, true, nat_eq, length, Decides, IfOk, OnOk, if◌then◌else◌};
 ghost use Rattle.std.specs.Option.{unwrap_or};
 ghost use Rattle.indexmap.specs.IndexMap.{get};
-ghost use Rattle.storage_layout.specs.EndTable.{end_in};
-ghost use Rattle.storage_layout.specs.Ends.{IsReady, FindsOdd};
+ghost use Rattle.storage_layout.specs.steps.EndTable.{end_in};
+ghost use Rattle.storage_layout.specs.steps.Ends.{IsReady, FindsOdd};
 
 use crate::ends::{Ends, ends_of};
-use crate::given::BlockList;
 use crate::things::Things;
 use equiv_class::Classes;
-use ftn_base::NoMemory;
+use ftn_base::{BlockList, NoMemory};
 use indexmap::IndexMap;
 use std::alloc::Global;
 

@@ -1,8 +1,8 @@
 //! Where common blocks end in scoping units.
 
 ghost use Rattle.std.specs.Prelude.{◌≡◌, ◌<◌, ◌≤◌, ◌&&◌, ℕ, max, nat_eq, IfOk, OnOk, if◌then◌else◌, length, slice_index};
-ghost use Rattle.storage_layout.specs.EndTable.{end_in};
-ghost use Rattle.storage_layout.specs.Ends.{IsReady, IsGreatest, last_of};
+ghost use Rattle.storage_layout.specs.steps.EndTable.{end_in};
+ghost use Rattle.storage_layout.specs.steps.Ends.{IsReady, IsGreatest, last_of};
 
 use crate::things::Things;
 use equiv_class::Classes;

@@ -2,15 +2,14 @@
 
 ghost use Rattle.std.specs.Prelude.{◌≡◌, ◌≤◌, length, IfOk};
 ghost use Rattle.ftn_base.specs.Storage.{IsContradicted, tie_links};
-ghost use Rattle.storage_layout.specs.Kept.{AreKept, sizes_in};
-ghost use Rattle.storage_layout.specs.Members.{sizes_of};
-ghost use Rattle.storage_layout.specs.Held.{IsFirstWith, count_of};
+ghost use Rattle.ftn_base.specs.StorageMembers.{sizes_of};
+ghost use Rattle.storage_layout.specs.steps.Kept.{AreKept, sizes_in};
+ghost use Rattle.storage_layout.specs.steps.Held.{IsFirstWith, count_of};
 
-use crate::given::Object;
 use crate::holding::holds;
 use crate::kind::Kind;
 use crate::things::Things;
-use ftn_base::NoMemory;
+use ftn_base::{NoMemory, Object};
 use std::alloc::Global;
 
 // how many links there are of those that the kind counts

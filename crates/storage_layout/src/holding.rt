@@ -2,19 +2,18 @@
 
 ghost use Rattle.std.specs.Prelude.{◌≡◌, ◌≤◌, ◌<◌, ◌^◌, ℕ, [], IfOk, Decides, length, slice_index, take};
 ghost use Rattle.ftn_base.specs.Storage.{IsContradicted, tie_links};
-ghost use Rattle.storage_layout.specs.Kept.{AreKept, given_of, sizes_in};
-ghost use Rattle.storage_layout.specs.Members.{links, list_links, sizes_of};
-ghost use Rattle.storage_layout.specs.Faults.{AreBlocksJoined, AreMixed, IsExtended};
-ghost use Rattle.storage_layout.specs.Held.{Holds, count_of};
+ghost use Rattle.ftn_base.specs.StorageMembers.{links, list_links, sizes_of};
+ghost use Rattle.ftn_base.specs.StorageFaults.{AreBlocksJoined, AreMixed, IsExtended};
+ghost use Rattle.storage_layout.specs.steps.Kept.{AreKept, given_of, sizes_in};
+ghost use Rattle.storage_layout.specs.steps.Held.{Holds, count_of};
 
 use crate::extension::extends_before;
-use crate::given::Object;
 use crate::joined_blocks::has_twins;
 use crate::joining::joined;
 use crate::kind::Kind;
 use crate::mixing::mixes;
 use crate::things::Things;
-use ftn_base::NoMemory;
+use ftn_base::{NoMemory, Object};
 use std::alloc::Global;
 
 // whether so many ties extend a block before its first unit

@@ -1,7 +1,7 @@
 //! Common blocks that ties join.
 
 ghost use Rattle.std.specs.Prelude.{◌<◌, All, IfOk, Decides};
-ghost use Rattle.storage_layout.specs.Held.{HasTwins};
+ghost use Rattle.storage_layout.specs.steps.Held.{HasTwins};
 
 use ftn_base::NoMemory;
 use std::alloc::Global;

@@ -3,7 +3,7 @@
 ghost use Rattle.std.specs.Prelude.{IfOk};
 ghost use Rattle.ftn_base.specs.Storage.{IsContradicted, tie_links};
 ghost use Rattle.equiv_class.specs.Sound.{IsSound};
-ghost use Rattle.storage_layout.specs.Kept.{AreLinkable};
+ghost use Rattle.storage_layout.specs.steps.Kept.{AreLinkable};
 
 use equiv_class::{Classes, TieFault, classes};
 use ftn_base::{NoMemory, Tie};

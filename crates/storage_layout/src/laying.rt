@@ -2,27 +2,27 @@
 
 ghost use Rattle.std.specs.Prelude.{◌≡◌, ◌+◌, ◌<◌, ◌≤◌, ◌^◌, length, All, IfOk, IsOk, IfErr};
 ghost use Rattle.ftn_base.specs.Storage.{IsContradicted, tie_links};
+ghost use Rattle.ftn_base.specs.StorageMembers.{all_members, links, sizes_of};
+ghost use Rattle.ftn_base.specs.StorageGiven.{AreGiven};
+ghost use Rattle.ftn_base.specs.StorageLayout.{IsSound};
+ghost use Rattle.ftn_base.specs.StorageFaults.{IsEven};
+ghost use Rattle.ftn_base.specs.StorageFaults.{AreSmall};
 ghost use Rattle.equiv_class.specs.Sound as classes;
-ghost use Rattle.storage_layout.specs.Members.{all_members, links, sizes_of};
-ghost use Rattle.storage_layout.specs.Given.{AreGiven};
-ghost use Rattle.storage_layout.specs.Laid.{IsSound};
-ghost use Rattle.storage_layout.specs.Told.{IsEven, IsTrueFault};
-ghost use Rattle.storage_layout.specs.Faults.{AreSmall};
-ghost use Rattle.storage_layout.specs.Numbered.{AreBlocksOf};
-ghost use Rattle.storage_layout.specs.Kept.{AreKept, IsTieFault, given_of, sizes_in};
+ghost use Rattle.storage_layout.specs.Faults.{IsTrueFault};
+ghost use Rattle.storage_layout.specs.steps.Numbered.{AreBlocksOf};
+ghost use Rattle.storage_layout.specs.steps.Kept.{AreKept, IsTieFault, given_of, sizes_in};
 
 use crate::answer::Layout;
 use crate::common_size::odd_list;
 use crate::fault::LayoutFault;
 use crate::first::first;
-use crate::given::{BlockList, Object};
 use crate::joining::joined;
 use crate::kind::Kind;
 use crate::limits::too_large;
 use crate::sorts::sorts_apart;
 use crate::things::Things;
 use equiv_class::{Classes, TieFault, classes};
-use ftn_base::{NoMemory, Tie};
+use ftn_base::{BlockList, NoMemory, Object, Tie};
 use std::alloc::Global;
 
 // the classes of all things, or the first tie that contradicts those before it

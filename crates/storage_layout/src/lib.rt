@@ -1,4 +1,9 @@
 //! Where variables lie in storage sequences that COMMON and EQUIVALENCE make (Fortran 90, 5.5.1, 5.5.2 and 14.6.3).
+//!
+//! `layout` promises areas and offsets that are exactly those of walks over the links of lists and ties, or the first
+//! of six faults. To be trusted are `Faults` here, and `Storage`, `StorageMembers`, `StorageGiven`, `StorageFaults` and
+//! `StorageLayout` of `ftn_base`; `steps` serves proofs alone. It isn't said how long it takes: nearly in line with
+//! objects, members and ties.
 #![tactic(auto)]
 
 mod answer;
@@ -7,7 +12,6 @@ mod ends;
 mod extension;
 mod fault;
 mod first;
-mod given;
 mod holding;
 mod joined_blocks;
 mod joining;
@@ -25,5 +29,5 @@ mod things;
 
 pub use answer::Layout;
 pub use fault::LayoutFault;
-pub use given::{BlockList, Object};
+pub use ftn_base::{BlockList, Object};
 pub use laying::layout;

@@ -1,22 +1,10 @@
 //! Members of common blocks.
 
 ghost use Rattle.std.specs.Prelude.{◌≡◌, ◌++◌, IfOk, OnOk};
-ghost use Rattle.storage_layout.specs.Members.{all_members, members_of};
+ghost use Rattle.ftn_base.specs.StorageMembers.{all_members, members_of};
 
-use crate::given::BlockList;
-use ftn_base::NoMemory;
+use ftn_base::{BlockList, Member, NoMemory};
 use std::alloc::Global;
-
-/// A member of a list of a common block in a scoping unit.
-#[derive(Clone, Copy)]
-pub struct Member {
-    /// The number of the block.
-    pub block: u32,
-    /// The scoping unit.
-    pub scope: u32,
-    /// The object.
-    pub object: u32,
-}
 
 // adds the members of one list
 fn add_list(members: &mut Vec<Member>, list: &BlockList) -> Result<(), NoMemory>

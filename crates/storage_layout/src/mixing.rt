@@ -1,13 +1,12 @@
 //! Numeric and character units that are one.
 
 ghost use Rattle.std.specs.Prelude.{◌≡◌, ◌<◌, ◌≤◌, ℕ, length, All, Decides, IfOk, slice_index, vec_len};
-ghost use Rattle.storage_layout.specs.Mixing.{AreMet, HasCrossing};
+ghost use Rattle.storage_layout.specs.steps.Mixing.{AreMet, HasCrossing};
 
-use crate::given::Object;
 use crate::reaches::Reaches;
 use crate::span::{Span, spans_in_order};
 use equiv_class::Classes;
-use ftn_base::NoMemory;
+use ftn_base::{NoMemory, Object};
 use std::alloc::Global;
 
 // whether a span begins before those before it, of its class, but of the other sort and of other groups, end

@@ -3,10 +3,9 @@
 ghost use Rattle.std.specs.Prelude.{◌≡◌, ◌+◌, ◌<◌, ◌≤◌, ◌^◌, ℕ, [], length, nat_eq, IfOk, OnOk};
 ghost use Rattle.std.specs.List.{position_or_len};
 ghost use Rattle.indexmap.specs.IndexSet.{insert_key};
-ghost use Rattle.storage_layout.specs.Naming.{AreLonger, IsRaised, end_in};
+ghost use Rattle.storage_layout.specs.steps.Naming.{AreLonger, IsRaised, end_in};
 
-use crate::member::Member;
-use ftn_base::NoMemory;
+use ftn_base::{Member, NoMemory};
 use indexmap::{IndexMap, IndexSet};
 use std::alloc::Global;
 

@@ -1,7 +1,7 @@
 //! How far objects of one sort reach, by the groups that they belong to.
 
 ghost use Rattle.std.specs.Prelude.{◌≡◌, ◌≤◌, ℕ, max, nat_eq, if◌then◌else◌};
-ghost use Rattle.storage_layout.specs.Beside.{beside_of};
+ghost use Rattle.storage_layout.specs.steps.Beside.{beside_of};
 
 /// How far the objects seen so far reach, and how far those do that are not of the group that reaches farthest.
 #[derive(Clone, Copy)]

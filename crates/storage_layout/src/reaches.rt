@@ -2,7 +2,7 @@
 
 ghost use Rattle.std.specs.Prelude.{◌≡◌, ℕ};
 ghost use Rattle.ftn_base.specs.declared.entity.Sort as sorts;
-ghost use Rattle.storage_layout.specs.Reaching.{against_of, further};
+ghost use Rattle.storage_layout.specs.steps.Reaching.{against_of, further};
 
 use crate::reach::Reach;
 use ftn_base::Sort;

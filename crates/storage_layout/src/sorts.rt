@@ -2,17 +2,17 @@
 
 ghost use Rattle.std.specs.Prelude.{◌≡◌, ◌<◌, ◌^◌, length, None, IfOk, IsOk, IfErr};
 ghost use Rattle.ftn_base.specs.Storage.{IsContradicted, tie_links};
-ghost use Rattle.storage_layout.specs.Members.{all_members, sizes_of};
-ghost use Rattle.storage_layout.specs.Told.{IsApart, IsPlace, IsSorted, IsTrueFault, MemberTold};
+ghost use Rattle.ftn_base.specs.StorageMembers.{all_members, sizes_of};
+ghost use Rattle.ftn_base.specs.StorageFaults.{IsApart, IsPlace, IsSorted, MemberTold};
+ghost use Rattle.storage_layout.specs.Faults.{IsTrueFault};
 ghost use Rattle.storage_layout.specs.declared.fault.LayoutFault.TheVariants as fault;
-ghost use Rattle.storage_layout.specs.Kept.{AreKept, given_of, sizes_in};
+ghost use Rattle.storage_layout.specs.steps.Kept.{AreKept, given_of, sizes_in};
 
 use crate::fault::LayoutFault;
 use crate::first::first;
-use crate::given::{BlockList, Object};
 use crate::kind::Kind;
 use crate::things::Things;
-use ftn_base::NoMemory;
+use ftn_base::{BlockList, NoMemory, Object};
 use std::alloc::Global;
 
 // where the member with that number among all members stands: its list, and its position in the list

@@ -2,11 +2,10 @@
 
 ghost use Rattle.std.specs.Prelude.{◌≡◌, ◌+◌, ◌<◌, ◌≤◌, ℕ, length, IfOk};
 ghost use Rattle.std.specs.List.Sorted.{IsNonDecreasingBy};
-ghost use Rattle.storage_layout.specs.Spans.{IsSpanOf, AreSpans};
+ghost use Rattle.storage_layout.specs.steps.Spans.{IsSpanOf, AreSpans};
 
-use crate::given::Object;
 use equiv_class::Classes;
-use ftn_base::{NoMemory, Sort};
+use ftn_base::{NoMemory, Object, Sort};
 use std::alloc::Global;
 
 /// The units of its class that an object takes.

@@ -1,15 +1,14 @@
 //! Objects and common blocks as things of equal right, with the ties between them.
 
 ghost use Rattle.std.specs.Prelude.{◌≡◌, ◌≤◌, ◌+◌, ◌<◌, IfOk, length, take, drop};
-ghost use Rattle.storage_layout.specs.Members.{all_members, sizes_of};
-ghost use Rattle.storage_layout.specs.Given.{AreGiven};
-ghost use Rattle.storage_layout.specs.Faults.{AreSmall};
-ghost use Rattle.storage_layout.specs.Kept.{AreKept, AreMembers, AreTied, given_of, sizes_in};
+ghost use Rattle.ftn_base.specs.StorageMembers.{all_members, sizes_of};
+ghost use Rattle.ftn_base.specs.StorageGiven.{AreGiven};
+ghost use Rattle.ftn_base.specs.StorageFaults.{AreSmall};
+ghost use Rattle.storage_layout.specs.steps.Kept.{AreKept, AreMembers, AreTied, given_of, sizes_in};
 
-use crate::given::{BlockList, Object};
-use crate::member::{Member, members_of_all};
+use crate::member::members_of_all;
 use crate::naming::Names;
-use ftn_base::{NoMemory, Tie};
+use ftn_base::{BlockList, Member, NoMemory, Object, Tie};
 use std::alloc::Global;
 
 /// Objects, then common blocks, with the ties between them.

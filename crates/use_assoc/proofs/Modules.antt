@@ -4,21 +4,25 @@ use Rattle.std.specs.Prelude.{not, IfSome}
 use Rattle.std.specs.List.{flat_map, list_any}
 use Rattle.std.specs.Option.{option_map, option_map_or, unwrap_or}
 use Rattle.std.proofs.lemmas.Option.{slice_get-get_or, slice_get-map}
+use Rattle.std.proofs.lemmas.Bool.{eqb-true}
 use Rattle.indexmap.specs.IndexMap.{IndexMap, get}
 use Rattle.indexmap.specs.IndexSet.{insert_all}
 use Rattle.ftn_base.specs.declared.entity.EntityId.{EntityId}
-use Rattle.use_assoc.specs.Access.{Pair, is_among}
-use Rattle.use_assoc.specs.Accessible.{accessible_of, bad_item, entities_of, exports_of, first_from, given_by, gives, is_same_pair, items_in, items_of, lists_of, modules_of, others, others_of, sources_of}
-use Rattle.use_assoc.specs.Table.{AreTables, found_in}
+use Rattle.ftn_base.specs.Exports.{Pair, is_among}
+use Rattle.ftn_base.specs.Accessible.{accessible_of, bad_item, entities_of, exports_of, first_from, given_by, gives, is_same_pair, items_in, items_of, lists_of, modules_of, others, others_of, sources_of}
+use Rattle.ftn_base.specs.declared.uses.UseList.{UseList}
+use Rattle.use_assoc.specs.steps.Table.{AreTables, found_in}
 use Rattle.use_assoc.specs.declared.table.Table.{Table}
-use Rattle.use_assoc.specs.declared.uses.UseList.{UseList}
 use Rattle.use_assoc.proofs.Adding.{all_append, opened}
-use Rattle.use_assoc.proofs.Once.{pairs_once, same_number}
+use Rattle.use_assoc.proofs.Once.{pairs_once}
 
 -- ---- tables
 
 pub at_is : {V A : Type 0} (f : V → List A) (xs : List V) (n : ℕ) (x : V) → n < length xs → x ≡ get_or xs n x → f x ≡ unwrap_or (slice_get (map f xs) n) []
 at_is f xs n x lt at = ap f at ∙ sym (ap (λ o. unwrap_or o []) (slice_get-map f xs n ∙ ap (option_map f) (slice_get-get_or xs n x lt)))
+
+pub one_is : {A : Type 0} (xs : List (List A)) (n : ℕ) (x : List A) → n < length xs → x ≡ get_or xs n x → x ≡ unwrap_or (slice_get xs n) []
+one_is xs n x lt at = at ∙ sym (ap (λ o. unwrap_or o []) (slice_get-get_or xs n x lt))
 
 abbrev IsRight : List (List Pair) → ℕ → Option Table → Type 0
 IsRight exports number table = IfSome table (λ t. found_in t.by_name ≡ entities_of (exports_of exports number))
@@ -30,7 +34,7 @@ module _ {H : Type 0} (exports : List (List Pair)) where
   table_added old new number table before updates right q = subst (IsRight exports q) (sym (updates q)) (by (nat_eq number q) refl)
     where
       by : (b : Bool) → nat_eq number q ≡ b → IsRight exports q (cond b (Some table) (get nat_eq old q))
-      by true e = right ∙ ap (λ n. entities_of (exports_of exports n)) (same_number number q e)
+      by true e = right ∙ ap (λ n. entities_of (exports_of exports n)) (eqb-true number q e)
       by false e = before q
 
   pub table_right : (tables : IndexMap ℕ Table H) (number : ℕ) (table : Table) → get nat_eq tables number ≡ Some table → AreTables exports tables

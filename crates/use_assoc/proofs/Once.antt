@@ -7,11 +7,12 @@ use Rattle.std.proofs.lemmas.List.{append-nil}
 use Rattle.std.proofs.lemmas.List.Elements.{All-cons, All-filter, All-map, All-nil, recursion_from_All}
 use Rattle.std.proofs.lemmas.List.Folds.{list_any-append}
 use Rattle.std.proofs.lemmas.Slice.Eq.{bytes_eq-Decides}
-use Rattle.indexmap.specs.IndexSet.{insert_all, insert_key}
-use Rattle.use_assoc.specs.Access.{Pair, is_among}
-use Rattle.use_assoc.specs.Accessible.{is_same_pair, modules_of, once}
-use Rattle.use_assoc.specs.declared.uses.UseList.{UseList}
 use Rattle.std.proofs.lemmas.Bool.Decides.{nat_tests}
+use Rattle.std.proofs.lemmas.Bool.{eqb-true, and_parts}
+use Rattle.indexmap.specs.IndexSet.{insert_all, insert_key}
+use Rattle.ftn_base.specs.Exports.{Pair, is_among}
+use Rattle.ftn_base.specs.Accessible.{is_same_pair, modules_of, once}
+use Rattle.ftn_base.specs.declared.uses.UseList.{UseList}
 
 pub or_false : (b : Bool) → (b || false) ≡ b
 or_false true = refl
@@ -107,9 +108,6 @@ module _ {A : Type 0} (same : A → A → Bool) (equal : (x y : A) → same x y 
 pub names_among : (set names : List (List ℕ)) → insert_all bytes_eq [] names ≡ set → is_among set ≡ is_among names
 names_among set names e = λ i name. (ap (λ s. is_among s name) (sym e) ∙ among_inserted bytes_eq (λ x y h. (bytes_eq-Decides x y).0 h) [] names name) i
 
-pub same_number : (x y : ℕ) → nat_eq x y ≡ true → x ≡ y
-same_number x y e = grind (arith, nat_tests)
-
 pub same_as_itself : (x : ℕ) → nat_eq x x ≡ true
 same_as_itself x = grind (arith, nat_tests)
 
@@ -117,20 +115,16 @@ pub is_same : (a b : Pair) → is_same_pair a b ≡ true → a ≡ b
 is_same a b e =
     let both = and_parts (bytes_eq a.0 b.0) (nat_eq a.1.0 b.1.0) e in
     let name : a.0 ≡ b.0 = (bytes_eq-Decides a.0 b.0).0 both.0 in
-    let number : a.1.0 ≡ b.1.0 = same_number a.1.0 b.1.0 both.1 in
+    let number : a.1.0 ≡ b.1.0 = eqb-true a.1.0 b.1.0 both.1 in
     λ i. (name i, record { 0 = number i })
-  where
-    and_parts : (x y : Bool) → (x && y) ≡ true → (x ≡ true) × (y ≡ true)
-    and_parts true y e = (refl, e)
-    and_parts false y e = absurd (true≢false (sym e))
 
 pub pairs_once : (xs : List Pair) → insert_all is_same_pair [] xs ≡ once is_same_pair xs
 pairs_once xs = once_is is_same_pair is_same xs
 
 pub modules_once : (lists : List UseList) → insert_all nat_eq [] (map (λ list. list.«module») lists) ≡ modules_of lists
-modules_once lists = once_is nat_eq same_number (map (λ list. list.«module») lists)
+modules_once lists = once_is nat_eq eqb-true (map (λ list. list.«module») lists)
 
 pub modules_within : (most : ℕ) (lists : List UseList) → All (λ list. list.«module» < most) lists → All (λ number. number < most) (modules_of lists)
 modules_within most lists all =
-    all_once nat_eq same_number (λ number. number < most) (map (λ list. list.«module») lists)
+    all_once nat_eq eqb-true (λ number. number < most) (map (λ list. list.«module») lists)
     (All-map (λ number. number < most) (λ list. list.«module») lists all)

@@ -1,4 +1,2 @@
-pub mod Access
-pub mod Accessible
-pub mod Groups
-pub mod Table
+pub mod Faults
+pub mod steps

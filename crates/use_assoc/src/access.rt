@@ -1,23 +1,11 @@
 //! The names that a module makes public (Fortran 90, 5.2.3 and 11.3.2).
 
 ghost use Rattle.std.specs.Prelude.{◌≡◌, ◌++◌, IfOk, OnOk, Bool, ◌&&◌, ◌||◌, not};
-ghost use Rattle.use_assoc.specs.Access.{is_among, is_public, public_part, exported};
+ghost use Rattle.ftn_base.specs.Exports.{is_among, is_public, public_part, exported};
 
 use crate::name_set::{NameSet, set_of};
-use ftn_base::{EntityId, Name, NoMemory};
-use sqlite_items::Items;
+use ftn_base::{Access, EntityId, Name, NoMemory};
 use std::alloc::Global;
-
-/// The PUBLIC and PRIVATE statements of a module (5.2.3).
-#[derive(Drop)]
-pub struct Access {
-    /// Whether a name that stands in neither list is public.
-    pub default_public: bool,
-    /// The names under PUBLIC.
-    pub public: Items<Name>,
-    /// The names under PRIVATE.
-    pub private: Items<Name>,
-}
 
 fn is_public(default_public: bool, public: &NameSet, private: &NameSet, name: &Name) -> bool
     ensures { result ≡ (not (is_among private.now name.now) && (default_public || is_among public.now name.now)) }

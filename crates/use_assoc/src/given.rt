@@ -1,13 +1,13 @@
 //! The pairs that were given, each once.
 
 ghost use Rattle.std.specs.Prelude.{◌≡◌, [], IfOk, OnOk};
-ghost use Rattle.indexmap.specs.IndexSet.{insert_key};
 ghost use Rattle.std.specs.Cmp.Lexicographic.{pointwise};
 ghost use Rattle.std.specs.Cmp.Rules.{comparing, hashing};
 ghost use Rattle.std.specs.Hash as fed;
 ghost use Rattle.std.specs.Prelude.{◌==◌, nat_eq};
 ghost use Rattle.std.proofs.Common.{rules};
-ghost use Rattle.use_assoc.specs.Accessible.{is_same_pair};
+ghost use Rattle.indexmap.specs.IndexSet.{insert_key};
+ghost use Rattle.ftn_base.specs.Accessible.{is_same_pair};
 
 use ftn_base::{EntityId, Name, NoMemory};
 use indexmap::IndexSet;
@@ -61,7 +61,7 @@ pub struct Given {
 
 impl Model for Given {
     ghost use Rattle.std.specs.Prelude.{List};
-    ghost use Rattle.use_assoc.specs.Access.{Pair};
+    ghost use Rattle.ftn_base.specs.Exports.{Pair};
 
     ghost Value = { List Pair };
 

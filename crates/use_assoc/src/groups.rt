@@ -3,10 +3,9 @@
 ghost use Rattle.std.specs.Prelude.{◌≡◌, ◌++◌, ◌∷◌, [], IfOk, OnOk, nat_eq, if◌then◌else◌};
 ghost use Rattle.indexmap.specs.IndexMap.{keys};
 ghost use Rattle.indexmap.specs.IndexSet.{insert_key};
-ghost use Rattle.use_assoc.specs.Groups.{found_lists, AreGroups};
+ghost use Rattle.use_assoc.specs.steps.Groups.{found_lists, AreGroups};
 
-use crate::uses::UseList;
-use ftn_base::NoMemory;
+use ftn_base::{NoMemory, UseList};
 use indexmap::IndexMap;
 use sqlite_items::Items;
 use std::alloc::Global;

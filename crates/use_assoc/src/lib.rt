@@ -1,12 +1,25 @@
 //! USE association (Fortran 90, 11.3.2): what a module makes public, and what the USE statements of a scoping unit make accessible.
+//!
+//! `exports`, `accessible` and `association` give exactly the pairs that are defined, in their order, and exactly the
+//! first item that isn't exported. `accessible` makes its own index of each module that the statements name;
+//! `association` takes indexes that are made once for all scoping units, `Exports`. To be trusted are `Faults` here, and `Exports` and
+//! `Accessible` of `ftn_base`; `steps` serves proofs alone. It isn't said how long a call takes: with indexes that
+//! grows in line with the items, and for a statement without ONLY with the names of its module.
 #![tactic(auto)]
 
 mod access;
+mod association;
+mod exports;
+mod fault;
 mod given;
 mod groups;
 mod name_set;
 mod table;
 mod uses;
 
-pub use access::{Access, exports};
-pub use uses::{UseFault, UseItem, UseList, accessible};
+pub use access::exports;
+pub use association::{Accessible, association};
+pub use exports::Exports;
+pub use fault::UseFault;
+pub use ftn_base::{Access, UseItem, UseList};
+pub use uses::accessible;

@@ -1,9 +1,9 @@
 //! Sets of names.
 
 ghost use Rattle.std.specs.Prelude.{◌≡◌, [], IfOk, OnOk, map};
-ghost use Rattle.indexmap.specs.IndexSet.{insert_key, insert_all};
 ghost use Rattle.std.specs.Str.{bytes_eq};
-ghost use Rattle.use_assoc.specs.Access.{is_among};
+ghost use Rattle.indexmap.specs.IndexSet.{insert_key, insert_all};
+ghost use Rattle.ftn_base.specs.Exports.{is_among};
 
 use ftn_base::{Name, NoMemory};
 use indexmap::IndexSet;

@@ -3,8 +3,8 @@
 ghost use Rattle.std.specs.Prelude.{◌≡◌, ◌<◌, ◌++◌, ◌∷◌, [], IfOk, OnOk, IsSome, IfSome, map, length, nat_eq, if◌then◌else◌};
 ghost use Rattle.std.specs.Str.{bytes_eq};
 ghost use Rattle.indexmap.specs.IndexMap.{get};
-ghost use Rattle.use_assoc.specs.Accessible as spec;
-ghost use Rattle.use_assoc.specs.Table.{found_in, AreTables};
+ghost use Rattle.ftn_base.specs.Accessible as spec;
+ghost use Rattle.use_assoc.specs.steps.Table.{found_in, AreTables};
 
 use ftn_base::{EntityId, Name, NoMemory};
 use indexmap::IndexMap;

@@ -6,64 +6,19 @@ ghost use Rattle.std.specs.Str.{bytes_eq};
 ghost use Rattle.std.specs.Option.{option_map};
 ghost use Rattle.indexmap.specs.IndexMap.{keys};
 ghost use Rattle.indexmap.specs.IndexSet.{insert_all};
-ghost use Rattle.use_assoc.specs.Access.{is_among};
-ghost use Rattle.use_assoc.specs.Accessible as spec;
-ghost use Rattle.use_assoc.specs.Groups.{lists_in, found_lists};
-ghost use Rattle.use_assoc.specs.Table.{found_in, AreTables};
-ghost use Rattle.use_assoc.specs.declared.uses.UseFault.TheVariants as faults;
+ghost use Rattle.ftn_base.specs.Exports.{is_among};
+ghost use Rattle.ftn_base.specs.Accessible as spec;
+ghost use Rattle.use_assoc.specs.Faults.{IsFault};
+ghost use Rattle.use_assoc.specs.steps.Groups.{lists_in, found_lists};
+ghost use Rattle.use_assoc.specs.steps.Table.{found_in, AreTables};
 
+use crate::fault::UseFault;
 use crate::given::Given;
 use crate::groups::{Groups, grouped};
 use crate::name_set::NameSet;
 use crate::table::{Table, Tables, exports_of};
-use ftn_base::{EntityId, Name, NoMemory};
-use sqlite_items::Items;
+use ftn_base::{EntityId, Name, NoMemory, UseItem, UseList};
 use std::alloc::Global;
-use thiserror::Error;
-
-/// An item of a USE statement. Without `=>` both names are the same.
-#[derive(Drop)]
-pub struct UseItem {
-    /// The name in the scoping unit.
-    pub local: Name,
-    /// The name in the module.
-    pub source: Name,
-}
-
-/// A USE statement.
-#[derive(Drop)]
-pub struct UseList {
-    /// The number of its module.
-    pub module: u32,
-    /// Whether it has ONLY.
-    pub only: bool,
-    /// Its items.
-    pub items: Items<UseItem>,
-}
-
-/// Why USE statements make nothing accessible.
-#[derive(Clone, Copy, Debug, Error)]
-pub enum UseFault {
-    /// An item whose source its module doesn't export, by the numbers of its list and in it of the item.
-    #[error("NotPublic")]
-    NotPublic {
-        /// The number of the list.
-        list: u32,
-        /// The number of the item in its list.
-        item: u32,
-    },
-    /// An allocation was refused.
-    #[error("NoMemory")]
-    NoMemory,
-}
-
-impl From<NoMemory> for UseFault {
-    ghost from_gives = { λ _ fault. fault ≡ faults.NoMemory };
-
-    fn from(_fault: NoMemory) -> UseFault {
-        UseFault::NoMemory
-    }
-}
 
 fn add_item(given: &mut Given, alloc: Global, table: &Table, item: &UseItem) -> Result<(), NoMemory>
     ensures { OnOk result (given.new ≡ insert_all spec.is_same_pair given.old (spec.gives (found_in table.now.by_name) item.now)) }
@@ -144,7 +99,8 @@ fn takes_all(lists: &[&UseList]) -> bool
     lists.iter().any(|list| !list.only)
 }
 
-fn add_module(
+/// Adds what the statements for one module give, by the table of what it exports and by the pairs themselves.
+pub(crate) fn add_module(
     given: &mut Given,
     alloc: Global,
     table: &Table,
@@ -171,7 +127,8 @@ fn is_missing(table: &Table, name: &Name) -> bool
     }
 }
 
-fn bad_item(table: &Table, items: &[UseItem]) -> Option<usize>
+/// The number of the first item whose source the table doesn't have.
+pub(crate) fn bad_item(table: &Table, items: &[UseItem]) -> Option<usize>
     ensures within { IfSome result (λ item. item < length items.now) }
     ensures first { result ≡ spec.bad_item (found_in table.now.by_name) items.now }
 {
@@ -258,7 +215,7 @@ pub fn accessible(
     requires few_items { All (λ list. length list.items < 2 ^ 32) lists.now }
     ensures public { IfOk result (λ _. spec.first_not_public (map (λ pairs. pairs.items) exports.now) lists.now ≡ None) }
     ensures pairs { IfOk result (λ pairs. pairs.items ≡ spec.accessible_of (map (λ pairs. pairs.items) exports.now) lists.now) }
-    ensures fault { IfErr result (λ fault. spec.IsFault fault (spec.first_not_public (map (λ pairs. pairs.items) exports.now) lists.now)) }
+    ensures fault { IfErr result (λ fault. IsFault fault (spec.first_not_public (map (λ pairs. pairs.items) exports.now) lists.now)) }
 {
     let mut tables = Tables::new(alloc);
     if let Some((list, item)) = first_not_public(&mut tables, alloc, exports, lists)? {

@@ -1,6 +1,6 @@
 use Rattle.std.proofs.Common.{◌≡◌, ◌+◌, ◌<◌, ℕ, length, slice_index}
 use Rattle.equiv_class.specs.declared.sequences.TheConstants.{MIDDLE}
-use Rattle.equiv_class.specs.Lists.{begin_of, lists_of}
+use Rattle.equiv_class.specs.steps.Lists.{begin_of, lists_of}
 use Rattle.equiv_class.proofs.measuring.offsets.Given as goal
 
 abbrev pub invariant-loop-object : goal.invariant-loop-object

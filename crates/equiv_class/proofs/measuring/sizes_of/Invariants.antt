@@ -1,5 +1,5 @@
 use Rattle.std.proofs.Common.{◌≡◌, ◌<◌, ℕ, length, slice_index}
-use Rattle.equiv_class.specs.Lists.{lists_of, reach_of}
+use Rattle.equiv_class.specs.steps.Lists.{lists_of, reach_of}
 use Rattle.equiv_class.proofs.measuring.sizes_of.Given as goal
 
 abbrev pub invariant-loop-label : goal.invariant-loop-label

@@ -1,5 +1,5 @@
 use Rattle.std.proofs.Common.{rules, ap, sym, ◌∙◌, ◌≡◌, ◌++◌}
-use Rattle.equiv_class.specs.Lists.{member_lists, members_of}
+use Rattle.equiv_class.specs.steps.Lists.{member_lists, members_of}
 use Rattle.equiv_class.proofs.Relabels.{handed_over, list_at}
 use Rattle.equiv_class.proofs.moving.hand_over.Goals as goal
 

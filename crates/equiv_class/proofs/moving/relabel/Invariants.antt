@@ -1,5 +1,5 @@
 use Rattle.std.proofs.Common.{take}
-use Rattle.equiv_class.specs.Lists.{IsMoved}
+use Rattle.equiv_class.specs.steps.Lists.{IsMoved}
 use Rattle.equiv_class.proofs.moving.relabel.Given as goal
 
 abbrev pub invariant-loop-object : goal.invariant-loop-object

@@ -1,4 +1,4 @@
-use Rattle.equiv_class.specs.Numbers.{IsNumbering}
+use Rattle.equiv_class.specs.steps.Numbers.{IsNumbering}
 use Rattle.equiv_class.proofs.numbering.number.Given as goal
 
 abbrev pub invariant-loop-one : goal.invariant-loop-one

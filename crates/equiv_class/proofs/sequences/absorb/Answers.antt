@@ -1,6 +1,6 @@
 use Rattle.std.proofs.Common.{◌≡◌, ◌∙◌, sym, ap, length, arith}
-use Rattle.equiv_class.specs.Lists.{lists_of, member_lists, members_of}
-use Rattle.equiv_class.specs.Joins.{label_b}
+use Rattle.equiv_class.specs.steps.Lists.{lists_of, member_lists, members_of}
+use Rattle.equiv_class.specs.steps.Joins.{label_b}
 use Rattle.equiv_class.proofs.Absorbs.{lists_whole, moved_high, moved_known, moved_low, moved_whole, reach_whole}
 use Rattle.equiv_class.proofs.sequences.absorb.Goals as goal
 

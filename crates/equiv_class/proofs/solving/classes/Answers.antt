@@ -1,6 +1,6 @@
 use Rattle.std.proofs.Common.{◌≡◌, ◌<◌, ◌∙◌, ℕ, List, length, slice_index, All, sym, subst, ap}
-use Rattle.equiv_class.specs.Lists.{lists_of, reach_of}
-use Rattle.equiv_class.specs.Numbers.{IsNumbered}
+use Rattle.equiv_class.specs.steps.Lists.{lists_of, reach_of}
+use Rattle.equiv_class.specs.steps.Numbers.{IsNumbered}
 use Rattle.equiv_class.proofs.Answered.{order_known, sound}
 use Rattle.equiv_class.proofs.Reached.{consistent}
 use Rattle.equiv_class.proofs.solving.classes.Goals as goal

@@ -2,10 +2,10 @@ use Rattle.std.proofs.Common.{sym, subst, Option, ℕ, List, get_or, take}
 use Rattle.std.proofs.lemmas.List.{take_more}
 use Rattle.std.proofs.lemmas.List.Elements.{All-take}
 use Rattle.ftn_base.specs.declared.entity.Tie.{Tie}
-use Rattle.equiv_class.specs.Lists.{lists_of}
-use Rattle.equiv_class.specs.Sound.{IsWithin}
-use Rattle.equiv_class.specs.Joins.{Joins}
-use Rattle.equiv_class.specs.Joining.{IsJoined}
+use Rattle.ftn_base.specs.Storage.{IsWithin}
+use Rattle.equiv_class.specs.steps.Lists.{lists_of}
+use Rattle.equiv_class.specs.steps.Joins.{Joins}
+use Rattle.equiv_class.specs.steps.Joining.{IsJoined}
 use Rattle.equiv_class.proofs.Clashes.{conflict}
 use Rattle.equiv_class.proofs.Steps.{is_ready, joined_first, joined_next}
 use Rattle.equiv_class.proofs.solving.join_all.Goals as goal

@@ -1,6 +1,6 @@
 use Rattle.std.proofs.Common.{take}
-use Rattle.equiv_class.specs.Lists.{lists_of}
-use Rattle.equiv_class.specs.Joining.{IsJoined}
+use Rattle.equiv_class.specs.steps.Lists.{lists_of}
+use Rattle.equiv_class.specs.steps.Joining.{IsJoined}
 use Rattle.equiv_class.proofs.solving.join_all.Given as goal
 
 abbrev pub invariant-loop-tie : goal.invariant-loop-tie

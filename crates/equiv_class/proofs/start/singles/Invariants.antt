@@ -1,5 +1,5 @@
 use Rattle.std.proofs.Common.{◌≡◌, ◌<◌, ℕ, [], ◌∷◌, length}
-use Rattle.equiv_class.specs.Lists.{member_lists, members_of}
+use Rattle.equiv_class.specs.steps.Lists.{member_lists, members_of}
 use Rattle.equiv_class.proofs.start.singles.Given as goal
 
 abbrev pub invariant-loop-number : goal.invariant-loop-number

@@ -1,5 +1,5 @@
 use Rattle.std.proofs.Common.{◌≡◌, length}
-use Rattle.implicit_type.specs.Letters as spec
+use Rattle.ftn_base.specs.ImplicitLetters as spec
 use Rattle.implicit_type.proofs.rows.put.Given as goal
 
 abbrev pub invariant-loop-letter : goal.invariant-loop-letter

@@ -1,6 +1,6 @@
 use Rattle.std.proofs.Common.{get_or, arith}
 use Rattle.std.proofs.lemmas.Grind.{common_steps}
-use Rattle.module_graph.specs.Marks.{IsMarked}
+use Rattle.module_graph.specs.steps.Marks.{IsMarked}
 use Rattle.module_graph.proofs.Marking.{marked_next, marked_whole}
 use Rattle.module_graph.proofs.entries.next_open.Goals as goal
 

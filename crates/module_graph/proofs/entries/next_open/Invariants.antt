@@ -1,5 +1,5 @@
 use Rattle.std.proofs.Common.{◌-◌, length, All, take}
-use Rattle.module_graph.specs.Marks.{IsMarked}
+use Rattle.module_graph.specs.steps.Marks.{IsMarked}
 use Rattle.module_graph.proofs.entries.next_open.Given as goal
 
 abbrev pub invariant-entries : goal.invariant-entries

@@ -2,7 +2,7 @@ use Rattle.std.proofs.Common.{◌≡◌, ◌+◌, ◌<◌, ◌∷◌, ◌∙◌,
 use Rattle.std.proofs.lemmas.List.{length_push}
 use Rattle.std.proofs.lemmas.List.Elements.{All-more}
 use Rattle.module_graph.specs.Uses.{used_lists}
-use Rattle.module_graph.specs.Groups.{HasNumber}
+use Rattle.module_graph.specs.steps.Groups.{HasNumber}
 use Rattle.module_graph.proofs.Giving as giving
 use Rattle.module_graph.proofs.Listing.{all_known, lists_length}
 use Rattle.module_graph.proofs.Marking.{in_front}

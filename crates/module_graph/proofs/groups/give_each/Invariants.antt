@@ -1,6 +1,6 @@
 use Rattle.std.proofs.Common.{◌≡◌, ◌+◌, ◌∷◌, length, take, All}
 use Rattle.module_graph.specs.Uses.{used_lists}
-use Rattle.module_graph.specs.Groups.{HasNumber, IsGiving, without_number}
+use Rattle.module_graph.specs.steps.Groups.{HasNumber, IsGiving, without_number}
 use Rattle.module_graph.proofs.groups.give_each.Given as goal
 
 abbrev pub invariant-loop-used : goal.invariant-loop-used

@@ -1,6 +1,6 @@
 use Rattle.std.proofs.Common.{◌+◌, length}
 use Rattle.module_graph.specs.Uses.{used_lists}
-use Rattle.module_graph.specs.Groups.{IsGiving, without_number}
+use Rattle.module_graph.specs.steps.Groups.{IsGiving, without_number}
 use Rattle.module_graph.proofs.groups.give_from.Given as goal
 
 abbrev pub invariant-turns : goal.invariant-turns

@@ -1,6 +1,6 @@
 use Rattle.std.proofs.Common.{◌+◌, ◌<◌, [], length, All}
 use Rattle.module_graph.specs.Uses.{used_lists}
-use Rattle.module_graph.specs.Groups.{IsGiving}
+use Rattle.module_graph.specs.steps.Groups.{IsGiving}
 use Rattle.module_graph.proofs.groups.group_numbers.Given as goal
 
 abbrev pub invariant-roots : goal.invariant-roots

@@ -1,6 +1,6 @@
 use Rattle.std.proofs.Common.{◌<◌, length, All}
 use Rattle.module_graph.specs.Uses.{used_lists}
-use Rattle.module_graph.specs.Marks.{IsEntry, to_do}
+use Rattle.module_graph.specs.steps.Marks.{IsEntry, to_do}
 use Rattle.module_graph.proofs.groups.walk_from.Given as goal
 
 abbrev pub invariant-steps : goal.invariant-steps

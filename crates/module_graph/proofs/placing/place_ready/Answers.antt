@@ -1,11 +1,11 @@
 use Rattle.std.proofs.Common.{◌≡◌, length, sym, arith, inl, inr}
+use Rattle.std.proofs.lemmas.Bool.{cases_lt, false≢true}
+use Rattle.std.proofs.lemmas.List.{nil_from_length}
 use Rattle.module_graph.specs.Uses.{used_lists}
-use Rattle.module_graph.specs.Waiting.{waiter_lists}
+use Rattle.module_graph.specs.steps.Waiting.{waiter_lists}
 use Rattle.module_graph.proofs.Listing.{lists_length}
 use Rattle.module_graph.proofs.Marking.{all_unmarked}
 use Rattle.module_graph.proofs.Waits.{goes_on, going_first, is_taken, none_ready, nothing_yet, turn_nearer, waits_length}
-use Rattle.std.proofs.lemmas.Bool.{cases_lt, false≢true}
-use Rattle.std.proofs.lemmas.List.{nil_from_length}
 use Rattle.module_graph.proofs.placing.place_ready.Goals as goal
 
 pub mark-requires-clause-taken : goal.mark-requires-clause-taken

@@ -1,6 +1,6 @@
 use Rattle.module_graph.specs.Uses.{used_lists}
-use Rattle.module_graph.specs.Marks.{unmarked}
-use Rattle.module_graph.specs.Waiting.{IsGoing, waiter_lists}
+use Rattle.module_graph.specs.steps.Marks.{unmarked}
+use Rattle.module_graph.specs.steps.Waiting.{IsGoing, waiter_lists}
 use Rattle.module_graph.proofs.placing.place_ready.Given as goal
 
 abbrev pub invariant-places : goal.invariant-places

@@ -1,6 +1,6 @@
 use Rattle.std.proofs.Common.{◌<◌, ℕ, length, refl, arith, below_more}
+use Rattle.ftn_base.specs.ModuleCycles.{IsOnCycle}
 use Rattle.module_graph.specs.Uses.{used_lists}
-use Rattle.module_graph.specs.Cycles.{IsOnCycle}
 use Rattle.module_graph.proofs.Chains.{on_cycle_known}
 use Rattle.module_graph.proofs.Giving.{none_alike, on_none}
 use Rattle.module_graph.proofs.Searching.{least_by_way_back}

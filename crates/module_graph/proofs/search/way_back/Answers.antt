@@ -3,7 +3,7 @@ use Rattle.std.proofs.lemmas.Bool.Decides.{nat_tests}
 use Rattle.std.proofs.lemmas.Grind.{common_steps}
 use Rattle.std.proofs.lemmas.List.{length-map}
 use Rattle.module_graph.specs.Uses.{used_lists}
-use Rattle.module_graph.specs.Walks.{modules_of}
+use Rattle.module_graph.specs.steps.Walks.{modules_of}
 use Rattle.module_graph.specs.declared.entries.Entry.{Entry}
 use Rattle.module_graph.proofs.Listing.{lists_length}
 use Rattle.module_graph.proofs.Searching as searching

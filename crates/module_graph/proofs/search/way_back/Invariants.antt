@@ -1,7 +1,7 @@
 use Rattle.std.proofs.Common.{All}
 use Rattle.module_graph.specs.Uses.{used_lists}
-use Rattle.module_graph.specs.Marks.{IsEntry, IsSearch, to_do}
-use Rattle.module_graph.specs.Walks.{modules_of}
+use Rattle.module_graph.specs.steps.Marks.{IsEntry, IsSearch, to_do}
+use Rattle.module_graph.specs.steps.Walks.{modules_of}
 use Rattle.module_graph.proofs.search.way_back.Given as goal
 
 abbrev pub invariant-steps : goal.invariant-steps

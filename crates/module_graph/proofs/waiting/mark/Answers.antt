@@ -1,6 +1,6 @@
 use Rattle.std.proofs.Common.{◌<◌, ◌∙◌, length, arith}
 use Rattle.module_graph.specs.Uses.{used_lists}
-use Rattle.module_graph.specs.Waiting.{waiter_lists}
+use Rattle.module_graph.specs.steps.Waiting.{waiter_lists}
 use Rattle.module_graph.proofs.Listing.{lists_length}
 use Rattle.module_graph.proofs.Waits.{covered_after, marked_sound, waits_length}
 use Rattle.module_graph.proofs.waiting.mark.Goals as goal

@@ -1,8 +1,8 @@
 use Rattle.std.proofs.Common.{◌<◌, ◌∙◌, [], ◌∷◌, ◌++◌, Vec, Global, ap, sym, length, get_or, arith}
 use Rattle.std.proofs.lemmas.Grind.{common_steps}
 use Rattle.module_graph.specs.Uses.{used_lists}
-use Rattle.module_graph.specs.Marks.{IsUnmarked}
-use Rattle.module_graph.specs.Waiting.{waiter_lists}
+use Rattle.module_graph.specs.steps.Marks.{IsUnmarked}
+use Rattle.module_graph.specs.steps.Waiting.{waiter_lists}
 use Rattle.module_graph.specs.declared.entries.Entry.{Entry}
 use Rattle.module_graph.proofs.Listing.{known_below}
 use Rattle.module_graph.proofs.Waits.{is_ready, waits_on}

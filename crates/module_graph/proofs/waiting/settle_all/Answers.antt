@@ -1,5 +1,5 @@
 use Rattle.std.proofs.Common.{ℕ, below_more}
-use Rattle.module_graph.specs.Waiting.{IsCovered, waiter_lists}
+use Rattle.module_graph.specs.steps.Waiting.{IsCovered, waiter_lists}
 use Rattle.module_graph.proofs.waiting.settle_all.Goals as goal
 
 pub loop-user-preserved : goal.loop-user-preserved

@@ -1,6 +1,6 @@
 use Rattle.std.proofs.Common.{◌<◌, ℕ}
 use Rattle.module_graph.specs.Uses.{used_lists}
-use Rattle.module_graph.specs.Waiting.{IsCovered, IsSound, waiter_lists}
+use Rattle.module_graph.specs.steps.Waiting.{IsCovered, IsSound, waiter_lists}
 use Rattle.module_graph.proofs.waiting.settle_all.Given as goal
 
 abbrev pub invariant-loop-user : goal.invariant-loop-user

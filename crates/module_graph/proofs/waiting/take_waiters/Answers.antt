@@ -1,5 +1,5 @@
 use Rattle.std.proofs.Common.{◌≡◌, ◌∙◌, ap, List, [], set}
-use Rattle.module_graph.specs.Waiting.{waiter_lists}
+use Rattle.module_graph.specs.steps.Waiting.{waiter_lists}
 use Rattle.module_graph.specs.declared.entries.Entry.{Entry}
 use Rattle.module_graph.proofs.Waits.{waits_set}
 use Rattle.module_graph.proofs.waiting.take_waiters.Goals as goal

@@ -1,4 +1,4 @@
-use Rattle.module_graph.specs.Waiting.{waiter_lists}
+use Rattle.module_graph.specs.steps.Waiting.{waiter_lists}
 use Rattle.module_graph.proofs.Waits.{woken_next, woken_whole}
 use Rattle.module_graph.proofs.waiting.wake.Goals as goal
 

@@ -1,7 +1,7 @@
 use Rattle.std.proofs.Common.{ℕ, All, take}
 use Rattle.module_graph.specs.Uses.{used_lists}
-use Rattle.module_graph.specs.Marks.{IsUnmarked}
-use Rattle.module_graph.specs.Waiting.{IsCovered, IsSound, waiter_lists}
+use Rattle.module_graph.specs.steps.Marks.{IsUnmarked}
+use Rattle.module_graph.specs.steps.Waiting.{IsCovered, IsSound, waiter_lists}
 use Rattle.module_graph.proofs.waiting.wake.Given as goal
 
 abbrev pub invariant-loop-waiter : goal.invariant-loop-waiter

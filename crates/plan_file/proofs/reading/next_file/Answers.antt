@@ -5,7 +5,7 @@ use Rattle.ftn_base.specs.Files.{File}
 use Rattle.ftn_base.specs.Names.{is_file_name}
 use Rattle.ftn_base.specs.declared.name.NameFault.{NameFault}
 use Rattle.ftn_base.specs.declared.name.NameFault.TheVariants.{NotAName}
-use Rattle.plan_file.specs.Next.{may_come}
+use Rattle.plan_file.specs.steps.Next.{may_come}
 use Rattle.plan_file.proofs.Order.{next_from}
 use Rattle.plan_file.proofs.Steps.{no_field, no_name, not_named, not_next, takes_from}
 use Rattle.plan_file.proofs.reading.next_file.Goals as goal

@@ -3,9 +3,9 @@ use Rattle.std.specs.Option.{unwrap_or}
 use Rattle.std.proofs.lemmas.List.{take_more}
 use Rattle.std.proofs.lemmas.Option.{slice_get_read, slice_get_within}
 use Rattle.indexmap.specs.IndexMap.{get}
-use Rattle.storage_layout.specs.declared.given.BlockList.{BlockList}
-use Rattle.storage_layout.specs.EndTable.{end_in}
-use Rattle.storage_layout.specs.Ends.{first_of}
+use Rattle.ftn_base.specs.declared.storage.BlockList.{BlockList}
+use Rattle.storage_layout.specs.steps.EndTable.{end_in}
+use Rattle.storage_layout.specs.steps.Ends.{first_of}
 use Rattle.storage_layout.proofs.Firsts.{first_push, is_uneven, uneven_is}
 use Rattle.storage_layout.proofs.common_size.odd_list.Goals as goal
 

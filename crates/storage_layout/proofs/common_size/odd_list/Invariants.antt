@@ -1,7 +1,7 @@
 use Rattle.std.proofs.Common.{◌≡◌, ◌<◌, ℕ, nat_eq, take}
 use Rattle.indexmap.specs.IndexMap.{get}
-use Rattle.storage_layout.specs.EndTable.{end_in}
-use Rattle.storage_layout.specs.Ends.{IsUneven, first_of}
+use Rattle.storage_layout.specs.steps.EndTable.{end_in}
+use Rattle.storage_layout.specs.steps.Ends.{IsUneven, first_of}
 use Rattle.storage_layout.proofs.common_size.odd_list.Given as goal
 
 abbrev pub invariant-loop-number : goal.invariant-loop-number

@@ -1,7 +1,7 @@
 use Rattle.std.proofs.Common.{◌≡◌, ◌&&◌, ◌<◌, ℕ, max, cond, nat_eq, length, refl, subst, ap, ◌∙◌, arith}
 use Rattle.std.proofs.lemmas.Option.{slice_get_read}
-use Rattle.storage_layout.specs.EndTable.{end_in}
-use Rattle.storage_layout.specs.Ends.{IsGreatest}
+use Rattle.storage_layout.specs.steps.EndTable.{end_in}
+use Rattle.storage_layout.specs.steps.Ends.{IsGreatest}
 use Rattle.storage_layout.proofs.Greatest.{greatest_more}
 use Rattle.storage_layout.proofs.ends.ends_of.Goals as goal
 

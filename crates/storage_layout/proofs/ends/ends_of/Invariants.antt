@@ -1,6 +1,6 @@
 use Rattle.std.proofs.Common.{ℕ}
-use Rattle.storage_layout.specs.EndTable.{end_in}
-use Rattle.storage_layout.specs.Ends.{IsGreatest}
+use Rattle.storage_layout.specs.steps.EndTable.{end_in}
+use Rattle.storage_layout.specs.steps.Ends.{IsGreatest}
 use Rattle.storage_layout.proofs.ends.ends_of.Given as goal
 
 abbrev pub invariant-loop-number : goal.invariant-loop-number

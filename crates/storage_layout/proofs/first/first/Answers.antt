@@ -1,5 +1,5 @@
 use Rattle.std.proofs.Common.{zero, suc, ℕ, ◌<◌, arith}
-use Rattle.storage_layout.specs.Held.{Holds}
+use Rattle.storage_layout.specs.steps.Held.{Holds}
 use Rattle.storage_layout.proofs.Beginning.{none_held}
 use Rattle.storage_layout.proofs.first.first.Goals as goal
 

@@ -1,5 +1,5 @@
 use Rattle.std.proofs.Common.{◌-◌, ◌≤◌, ◌<◌}
-use Rattle.storage_layout.specs.Held.{Holds, count_of}
+use Rattle.storage_layout.specs.steps.Held.{Holds, count_of}
 use Rattle.storage_layout.proofs.first.first.Given as goal
 
 abbrev pub invariant-loop-low : goal.invariant-loop-low

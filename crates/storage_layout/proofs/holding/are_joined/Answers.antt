@@ -4,10 +4,10 @@ use Rattle.std.proofs.lemmas.List.{length-drop, get_or_default}
 use Rattle.std.proofs.lemmas.List.Elements.{All-drop}
 use Rattle.ftn_base.specs.declared.entity.Tie.{Tie}
 use Rattle.ftn_base.specs.Storage.{IsContradicted, tie_links}
+use Rattle.ftn_base.specs.StorageFaults.{AreBlocksJoined}
 use Rattle.equiv_class.specs.Sound as classes
-use Rattle.storage_layout.specs.Faults.{AreBlocksJoined}
-use Rattle.storage_layout.specs.Held.{HasTwins}
-use Rattle.storage_layout.specs.Kept.{given_of, sizes_in}
+use Rattle.storage_layout.specs.steps.Held.{HasTwins}
+use Rattle.storage_layout.specs.steps.Kept.{given_of, sizes_in}
 use Rattle.storage_layout.proofs.Parts.{take_among, agree_among}
 use Rattle.storage_layout.proofs.Judged.{joined_on, joined_back}
 use Rattle.storage_layout.proofs.holding.are_joined.Goals as goal

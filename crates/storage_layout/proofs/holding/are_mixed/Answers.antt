@@ -2,11 +2,11 @@ use Rattle.std.proofs.Common.{◌+◌, ℕ, List, take, length, subst, sym, arit
 use Rattle.std.proofs.lemmas.List.{length-take}
 use Rattle.ftn_base.specs.declared.entity.Tie.{Tie}
 use Rattle.ftn_base.specs.Storage.{IsContradicted, tie_links}
+use Rattle.ftn_base.specs.StorageMembers.{links, list_links}
+use Rattle.ftn_base.specs.StorageFaults.{AreMixed}
 use Rattle.equiv_class.specs.Sound as classes
-use Rattle.storage_layout.specs.Members.{links, list_links}
-use Rattle.storage_layout.specs.Faults.{AreMixed}
-use Rattle.storage_layout.specs.Kept.{AreLinkable, given_of, sizes_in}
-use Rattle.storage_layout.specs.Mixing.{AreMet}
+use Rattle.storage_layout.specs.steps.Kept.{AreLinkable, given_of, sizes_in}
+use Rattle.storage_layout.specs.steps.Mixing.{AreMet}
 use Rattle.storage_layout.proofs.Parts.{take_among, agree_among, linkable_among}
 use Rattle.storage_layout.proofs.MixedKept.{decided_too, units_filled, Mixes, mixes_too}
 use Rattle.storage_layout.proofs.holding.are_mixed.Goals as goal

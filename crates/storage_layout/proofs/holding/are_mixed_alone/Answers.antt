@@ -1,11 +1,11 @@
 use Rattle.std.proofs.Common.{ℕ, ◌<◌, ◌≡◌, ◌∙◌, ap, List, [], take, length, get_or, subst, sym}
 use Rattle.ftn_base.specs.declared.entity.Tie.{Tie}
 use Rattle.ftn_base.specs.Storage.{IsContradicted, tie_links}
+use Rattle.ftn_base.specs.StorageMembers.{list_links}
+use Rattle.ftn_base.specs.StorageFaults.{AreMixed}
 use Rattle.equiv_class.specs.Sound as classes
-use Rattle.storage_layout.specs.Members.{list_links}
-use Rattle.storage_layout.specs.Faults.{AreMixed}
-use Rattle.storage_layout.specs.Kept.{given_of, sizes_in}
-use Rattle.storage_layout.specs.Mixing.{AreMet}
+use Rattle.storage_layout.specs.steps.Kept.{given_of, sizes_in}
+use Rattle.storage_layout.specs.steps.Mixing.{AreMet}
 use Rattle.storage_layout.proofs.Parts.{take_among, agree_among}
 use Rattle.storage_layout.proofs.MixedKept.{decided_too, units_filled, mixes_alone_too}
 use Rattle.storage_layout.proofs.holding.are_mixed_alone.Goals as goal

@@ -1,7 +1,7 @@
 use Rattle.std.proofs.Common.{sym, subst}
 use Rattle.std.specs.Prelude.{IfOk, Decides}
 use Rattle.storage_layout.specs.declared.kind.Kind.{Kind}
-use Rattle.storage_layout.specs.Held.{Holds}
+use Rattle.storage_layout.specs.steps.Held.{Holds}
 use Rattle.storage_layout.proofs.holding.holds.Goals as goal
 
 pub returns-in-Before : goal.returns-in-Before

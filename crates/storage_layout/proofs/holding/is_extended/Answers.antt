@@ -2,10 +2,10 @@ use Rattle.std.proofs.Common.{◌≡◌, ◌<◌, ◌≤◌, ◌∙◌, ℕ, Lis
 use Rattle.std.proofs.lemmas.List.Elements.{All-take}
 use Rattle.ftn_base.specs.declared.entity.Tie.{Tie}
 use Rattle.ftn_base.specs.Storage.{IsContradicted, tie_links}
+use Rattle.ftn_base.specs.Storage.{IsWithin}
+use Rattle.ftn_base.specs.StorageFaults.{IsExtended}
 use Rattle.equiv_class.specs.Sound as classes
-use Rattle.equiv_class.specs.Sound.{IsWithin}
-use Rattle.storage_layout.specs.Faults.{IsExtended}
-use Rattle.storage_layout.specs.Kept.{given_of, sizes_in}
+use Rattle.storage_layout.specs.steps.Kept.{given_of, sizes_in}
 use Rattle.storage_layout.proofs.Parts.{take_among, drop_among, among_on, agree_among}
 use Rattle.storage_layout.proofs.Judged.{extended_on, extended_back}
 use Rattle.storage_layout.proofs.holding.is_extended.Goals as goal

@@ -1,10 +1,10 @@
 use Rattle.std.proofs.Common.{◌≡◌, ℕ, ◌-◌, length, subst, arith}
+use Rattle.ftn_base.specs.Storage.{IsContradicted}
+use Rattle.ftn_base.specs.StorageMembers.{links}
+use Rattle.ftn_base.specs.StorageFaults.{IsFirst}
 use Rattle.equiv_class.specs.declared.fault.TieFault.{TieFault}
 use Rattle.equiv_class.specs.Conflicts.{IsConflict, IsTrueFault}
-use Rattle.ftn_base.specs.Storage.{IsContradicted}
-use Rattle.storage_layout.specs.Members.{links}
-use Rattle.storage_layout.specs.Faults.{IsFirst}
-use Rattle.storage_layout.specs.Kept.{given_of, sizes_in}
+use Rattle.storage_layout.specs.steps.Kept.{given_of, sizes_in}
 use Rattle.storage_layout.proofs.Parts.{tie_conflict}
 use Rattle.storage_layout.proofs.laying.all_joined.Goals as goal
 

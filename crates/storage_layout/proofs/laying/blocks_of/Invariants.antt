@@ -1,5 +1,5 @@
 use Rattle.std.proofs.Common.{take}
-use Rattle.storage_layout.specs.Numbered.{AreBlocksOf}
+use Rattle.storage_layout.specs.steps.Numbered.{AreBlocksOf}
 use Rattle.storage_layout.proofs.laying.blocks_of.Given as goal
 
 abbrev pub invariant-loop-number : goal.invariant-loop-number

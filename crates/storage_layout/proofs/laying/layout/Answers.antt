@@ -1,10 +1,10 @@
 use Rattle.std.proofs.Common.{◌≡◌, ◌<◌, ℕ, List, length, take, get_or, refl, sym, subst, arith}
 use Rattle.std.proofs.lemmas.List.{get_or_default}
 use Rattle.ftn_base.specs.declared.entity.Tie.{Tie}
-use Rattle.storage_layout.specs.Members.{all_members, links, sizes_of}
-use Rattle.storage_layout.specs.Kept.{given_of}
-use Rattle.storage_layout.specs.Laid.{IsSound}
-use Rattle.storage_layout.specs.Told.{IsEven}
+use Rattle.ftn_base.specs.StorageMembers.{all_members, links, sizes_of}
+use Rattle.ftn_base.specs.StorageLayout.{IsSound}
+use Rattle.ftn_base.specs.StorageFaults.{IsEven}
+use Rattle.storage_layout.specs.steps.Kept.{given_of}
 use Rattle.storage_layout.proofs.Answering.{answer_sound}
 use Rattle.storage_layout.proofs.laying.layout.Goals as goal
 

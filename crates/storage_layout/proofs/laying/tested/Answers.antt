@@ -4,9 +4,9 @@ use Rattle.ftn_base.specs.declared.entity.Tie.{Tie}
 use Rattle.ftn_base.specs.Storage.{IsContradicted, tie_links}
 use Rattle.equiv_class.specs.Sound as classes
 use Rattle.storage_layout.specs.declared.kind.Kind.TheVariants as kind
-use Rattle.storage_layout.specs.Held.{IsFirstWith}
-use Rattle.storage_layout.specs.Kept.{AreLinkable, given_of}
-use Rattle.storage_layout.specs.Ends.{FindsOdd}
+use Rattle.storage_layout.specs.steps.Held.{IsFirstWith}
+use Rattle.storage_layout.specs.steps.Kept.{AreLinkable, given_of}
+use Rattle.storage_layout.specs.steps.Ends.{FindsOdd}
 use Rattle.storage_layout.proofs.Parts.{drop_among, agree_among, linkable_among}
 use Rattle.storage_layout.proofs.Telling.{all_taken, agreed, first_extended, none_extended, first_joined, none_joined, is_ready, list_told}
 use Rattle.storage_layout.proofs.laying.tested.Goals as goal

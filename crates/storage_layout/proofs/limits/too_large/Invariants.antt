@@ -1,6 +1,6 @@
 use Rattle.std.proofs.Common.{◌≡◌, ℕ, ◌<◌, ◌≤◌, ◌^◌, sum, take}
-use Rattle.storage_layout.specs.Members.{sizes_of}
-use Rattle.storage_layout.specs.Faults.{IsPastLimit}
+use Rattle.ftn_base.specs.StorageMembers.{sizes_of}
+use Rattle.ftn_base.specs.StorageFaults.{IsPastLimit}
 use Rattle.storage_layout.proofs.limits.too_large.Given as goal
 
 abbrev pub invariant-loop-at : goal.invariant-loop-at

@@ -3,7 +3,7 @@ use Rattle.std.proofs.lemmas.List.{take_more, length-set}
 use Rattle.std.proofs.lemmas.Option.{slice_get-get_or, slice_get_read}
 use Rattle.ftn_base.specs.declared.entity.Sort.TheVariants.{Numeric}
 use Rattle.storage_layout.specs.declared.span.Span.{Span}
-use Rattle.storage_layout.specs.Mixing.{IsKept}
+use Rattle.storage_layout.specs.steps.Mixing.{IsKept}
 use Rattle.storage_layout.proofs.Crossing.{kept_more, not_crossed, crossing_within}
 use Rattle.storage_layout.proofs.mixing.has_crossing.Goals as goal
 

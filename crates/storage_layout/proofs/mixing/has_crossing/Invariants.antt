@@ -1,5 +1,5 @@
 use Rattle.std.proofs.Common.{◌≡◌, ◌<◌, ℕ, length, take}
-use Rattle.storage_layout.specs.Mixing.{IsKept, IsCrossed}
+use Rattle.storage_layout.specs.steps.Mixing.{IsKept, IsCrossed}
 use Rattle.storage_layout.proofs.mixing.has_crossing.Given as goal
 
 abbrev pub invariant-loop-span : goal.invariant-loop-span

@@ -1,7 +1,7 @@
 use Rattle.std.proofs.Common.{◌<◌, ℕ, Bool, List, All, Decides, length, get_or, subst, sym}
 use Rattle.std.proofs.lemmas.Result.{IfOk-weaker}
 use Rattle.storage_layout.specs.declared.span.Span.{Span}
-use Rattle.storage_layout.specs.Mixing.{AreMet, HasCrossing}
+use Rattle.storage_layout.specs.steps.Mixing.{AreMet, HasCrossing}
 use Rattle.storage_layout.proofs.SpanLists.{classes_known}
 use Rattle.storage_layout.proofs.Meeting.{met_from, crossing_from}
 use Rattle.storage_layout.proofs.mixing.mixes.Goals as goal

@@ -1,6 +1,6 @@
 use Rattle.std.proofs.Common.{ℕ, Option, subst}
 use Rattle.storage_layout.specs.declared.kind.Kind.TheVariants as kind
-use Rattle.storage_layout.specs.Held.{IsFirstWith}
+use Rattle.storage_layout.specs.steps.Held.{IsFirstWith}
 use Rattle.storage_layout.proofs.Telling.{member_told}
 use Rattle.storage_layout.proofs.sorts.mixed_member.Goals as goal
 

@@ -1,5 +1,5 @@
 use Rattle.std.proofs.Common.{◌<◌, length, arith, ap}
-use Rattle.storage_layout.specs.declared.given.BlockList.{BlockList}
+use Rattle.ftn_base.specs.declared.storage.BlockList.{BlockList}
 use Rattle.storage_layout.proofs.Placed.{is_place}
 use Rattle.storage_layout.proofs.sorts.place_of.Goals as goal
 

@@ -1,5 +1,5 @@
 use Rattle.std.proofs.Common.{◌≡◌, ◌+◌, length, take}
-use Rattle.storage_layout.specs.Members.{all_members}
+use Rattle.ftn_base.specs.StorageMembers.{all_members}
 use Rattle.storage_layout.proofs.sorts.place_of.Given as goal
 
 abbrev pub invariant-loop-list : goal.invariant-loop-list

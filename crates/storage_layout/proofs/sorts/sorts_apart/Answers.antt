@@ -1,5 +1,5 @@
+use Rattle.storage_layout.specs.steps.Kept.{given_of}
 use Rattle.storage_layout.proofs.Telling.{tie_told, mismatch_told}
-use Rattle.storage_layout.specs.Kept.{given_of}
 use Rattle.storage_layout.proofs.sorts.sorts_apart.Goals as goal
 
 pub returns-clause-fault : goal.returns-clause-fault

@@ -1,6 +1,6 @@
 use Rattle.std.proofs.Common.{◌+◌, subst, sym, List}
 use Rattle.storage_layout.specs.declared.span.Span.{Span}
-use Rattle.storage_layout.specs.Spans.{AreSpans}
+use Rattle.storage_layout.specs.steps.Spans.{AreSpans}
 use Rattle.storage_layout.proofs.SpanLists.{spans_more}
 use Rattle.storage_layout.proofs.span.spans_of.Goals as goal
 

@@ -1,4 +1,4 @@
-use Rattle.storage_layout.specs.Spans.{AreSpans}
+use Rattle.storage_layout.specs.steps.Spans.{AreSpans}
 use Rattle.storage_layout.proofs.span.spans_of.Given as goal
 
 abbrev pub invariant-loop-number : goal.invariant-loop-number

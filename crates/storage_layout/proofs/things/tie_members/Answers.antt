@@ -1,6 +1,7 @@
 use Rattle.std.proofs.Common.{◌≡◌, ℕ, get_or, take, arith}
-use Rattle.storage_layout.specs.Members.{Member, units_in}
-use Rattle.storage_layout.specs.Naming.{end_in}
+use Rattle.ftn_base.specs.declared.storage.Member.{Member}
+use Rattle.ftn_base.specs.StorageMembers.{units_in}
+use Rattle.storage_layout.specs.steps.Naming.{end_in}
 use Rattle.storage_layout.proofs.Counted.{objects_few, names_few, end_few, member_there}
 use Rattle.storage_layout.proofs.Named.{at_most, taken}
 use Rattle.storage_layout.proofs.things.tie_members.Goals as goal

@@ -1,6 +1,6 @@
 use Rattle.std.proofs.Common.{[], length, take}
-use Rattle.storage_layout.specs.Naming.{IsNaming, end_in}
-use Rattle.storage_layout.specs.Numbered.{AreMemberTies}
+use Rattle.storage_layout.specs.steps.Naming.{IsNaming, end_in}
+use Rattle.storage_layout.specs.steps.Numbered.{AreMemberTies}
 use Rattle.storage_layout.proofs.things.tie_members.Given as goal
 
 abbrev pub invariant-loop-member : goal.invariant-loop-member

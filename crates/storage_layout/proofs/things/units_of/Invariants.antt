@@ -1,5 +1,5 @@
 use Rattle.std.proofs.Common.{◌≡◌, take}
-use Rattle.storage_layout.specs.Members.{sizes_of}
+use Rattle.ftn_base.specs.StorageMembers.{sizes_of}
 use Rattle.storage_layout.proofs.things.units_of.Given as goal
 
 abbrev pub invariant-loop-object : goal.invariant-loop-object

@@ -1,5 +1,5 @@
 use Rattle.std.proofs.Common.{◌≡◌, ◌++◌, drop}
-use Rattle.use_assoc.specs.Access.{is_among, public_part}
+use Rattle.ftn_base.specs.Exports.{is_among, public_part}
 use Rattle.use_assoc.proofs.access.add_public.Given as goal
 
 abbrev pub invariant-loop-pair : goal.invariant-loop-pair

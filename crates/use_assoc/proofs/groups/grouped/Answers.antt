@@ -1,7 +1,7 @@
 use Rattle.std.proofs.Common.{◌≡◌, nat_eq, [], map, take, ap, ◌∙◌}
 use Rattle.std.proofs.lemmas.List.{take_all}
 use Rattle.indexmap.specs.IndexSet.{insert_all}
-use Rattle.use_assoc.specs.Accessible.{lists_of}
+use Rattle.ftn_base.specs.Accessible.{lists_of}
 use Rattle.use_assoc.proofs.Once.{modules_once}
 use Rattle.use_assoc.proofs.groups.grouped.Goals as goal
 

@@ -1,8 +1,8 @@
 use Rattle.std.proofs.Common.{◌≡◌, [], nat_eq, map, take, ℕ}
 use Rattle.indexmap.specs.IndexMap.{keys}
 use Rattle.indexmap.specs.IndexSet.{insert_all}
-use Rattle.use_assoc.specs.Accessible.{lists_of}
-use Rattle.use_assoc.specs.Groups.{found_lists}
+use Rattle.ftn_base.specs.Accessible.{lists_of}
+use Rattle.use_assoc.specs.steps.Groups.{found_lists}
 use Rattle.use_assoc.proofs.groups.grouped.Given as goal
 
 abbrev pub invariant-loop-list : goal.invariant-loop-list

@@ -1,7 +1,7 @@
 use Rattle.std.proofs.Common.{◌≡◌, map, drop}
 use Rattle.indexmap.specs.IndexSet.{insert_all}
-use Rattle.use_assoc.specs.Table.{found_in}
-use Rattle.use_assoc.specs.Accessible.{is_same_pair, gives}
+use Rattle.ftn_base.specs.Accessible.{is_same_pair, gives}
+use Rattle.use_assoc.specs.steps.Table.{found_in}
 use Rattle.use_assoc.proofs.uses.add_item.Given as goal
 
 abbrev pub invariant-loop-entity : goal.invariant-loop-entity

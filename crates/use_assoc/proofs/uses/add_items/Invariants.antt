@@ -1,8 +1,8 @@
 use Rattle.std.proofs.Common.{◌≡◌, drop}
-use Rattle.indexmap.specs.IndexSet.{insert_all}
 use Rattle.std.specs.List.{flat_map}
-use Rattle.use_assoc.specs.Table.{found_in}
-use Rattle.use_assoc.specs.Accessible.{is_same_pair, gives}
+use Rattle.indexmap.specs.IndexSet.{insert_all}
+use Rattle.ftn_base.specs.Accessible.{is_same_pair, gives}
+use Rattle.use_assoc.specs.steps.Table.{found_in}
 use Rattle.use_assoc.proofs.uses.add_items.Given as goal
 
 abbrev pub invariant-loop-item : goal.invariant-loop-item

@@ -1,9 +1,9 @@
 use Rattle.std.proofs.Common.{◌≡◌, drop}
-use Rattle.indexmap.specs.IndexSet.{insert_all}
 use Rattle.std.specs.List.{flat_map}
-use Rattle.use_assoc.specs.Table.{found_in}
-use Rattle.use_assoc.specs.Groups.{lists_in}
-use Rattle.use_assoc.specs.Accessible.{is_same_pair, gives, items_in}
+use Rattle.indexmap.specs.IndexSet.{insert_all}
+use Rattle.ftn_base.specs.Accessible.{is_same_pair, gives, items_in}
+use Rattle.use_assoc.specs.steps.Table.{found_in}
+use Rattle.use_assoc.specs.steps.Groups.{lists_in}
 use Rattle.use_assoc.proofs.uses.add_lists.Given as goal
 
 abbrev pub invariant-loop-list : goal.invariant-loop-list

@@ -1,7 +1,7 @@
 use Rattle.std.proofs.Common.{not, sym, ◌∙◌}
-use Rattle.use_assoc.specs.Access.{is_among}
-use Rattle.use_assoc.specs.Groups.{lists_in}
-use Rattle.use_assoc.specs.Table.{found_in}
+use Rattle.ftn_base.specs.Exports.{is_among}
+use Rattle.use_assoc.specs.steps.Groups.{lists_in}
+use Rattle.use_assoc.specs.steps.Table.{found_in}
 use Rattle.use_assoc.proofs.Adding.{any-map}
 use Rattle.use_assoc.proofs.Modules.{items_and_others, only_items}
 use Rattle.use_assoc.proofs.uses.add_module.Goals as goal

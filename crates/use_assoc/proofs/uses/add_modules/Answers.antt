@@ -7,8 +7,8 @@ use Rattle.std.specs.Option.{unwrap_or}
 use Rattle.std.proofs.lemmas.List.Elements.{All-rest}
 use Rattle.std.proofs.lemmas.Map.Iter.{hash_map_turn, rest_more}
 use Rattle.indexmap.specs.IndexSet.{insert_all}
-use Rattle.use_assoc.specs.Accessible.{given_by, is_same_pair, exports_of}
-use Rattle.use_assoc.specs.Groups.{found_lists, lists_in}
+use Rattle.ftn_base.specs.Accessible.{given_by, is_same_pair, exports_of}
+use Rattle.use_assoc.specs.steps.Groups.{found_lists, lists_in}
 use Rattle.use_assoc.proofs.Adding.{flat_next}
 use Rattle.use_assoc.proofs.uses.add_modules.Goals as goal
 

@@ -1,11 +1,11 @@
 use Rattle.std.proofs.Common.{◌≡◌, ◌<◌, map, length}
-use Rattle.indexmap.specs.IndexMap.{keys}
-use Rattle.indexmap.specs.IndexSet.{insert_all}
 use Rattle.std.specs.List.{All, flat_map}
 use Rattle.std.specs.Map.{keys_of}
-use Rattle.use_assoc.specs.Table.{AreTables}
-use Rattle.use_assoc.specs.Groups.{found_lists}
-use Rattle.use_assoc.specs.Accessible.{is_same_pair, exports_of, given_by}
+use Rattle.indexmap.specs.IndexMap.{keys}
+use Rattle.indexmap.specs.IndexSet.{insert_all}
+use Rattle.ftn_base.specs.Accessible.{is_same_pair, exports_of, given_by}
+use Rattle.use_assoc.specs.steps.Table.{AreTables}
+use Rattle.use_assoc.specs.steps.Groups.{found_lists}
 use Rattle.use_assoc.proofs.uses.add_modules.Given as goal
 
 abbrev pub invariant-loop-number : goal.invariant-loop-number

@@ -1,7 +1,7 @@
 use Rattle.std.proofs.Common.{◌≡◌, drop}
 use Rattle.indexmap.specs.IndexSet.{insert_all}
-use Rattle.use_assoc.specs.Access.{is_among}
-use Rattle.use_assoc.specs.Accessible.{is_same_pair, others}
+use Rattle.ftn_base.specs.Exports.{is_among}
+use Rattle.ftn_base.specs.Accessible.{is_same_pair, others}
 use Rattle.use_assoc.proofs.uses.add_others.Given as goal
 
 abbrev pub invariant-loop-pair : goal.invariant-loop-pair

@@ -1,7 +1,7 @@
 use Rattle.std.proofs.Common.{◌≡◌, drop}
-use Rattle.indexmap.specs.IndexSet.{insert_all}
 use Rattle.std.specs.Str.{bytes_eq}
-use Rattle.use_assoc.specs.Accessible.{sources_of}
+use Rattle.indexmap.specs.IndexSet.{insert_all}
+use Rattle.ftn_base.specs.Accessible.{sources_of}
 use Rattle.use_assoc.proofs.uses.add_sources.Given as goal
 
 abbrev pub invariant-loop-item : goal.invariant-loop-item

@@ -1,7 +1,7 @@
 use Rattle.std.proofs.Common.{◌≡◌, ◌<◌, map, length, sym, subst, IfOk}
 use Rattle.std.specs.List.{All}
 use Rattle.indexmap.specs.IndexMap.{keys}
-use Rattle.use_assoc.specs.Groups.{found_lists}
+use Rattle.use_assoc.specs.steps.Groups.{found_lists}
 use Rattle.use_assoc.proofs.Modules.{all_is}
 use Rattle.use_assoc.proofs.Once.{modules_within}
 use Rattle.use_assoc.proofs.uses.all_given.Goals as goal

@@ -1,6 +1,6 @@
 use Rattle.std.proofs.Common.{◌+◌, map, sym, ap, ◌∙◌}
-use Rattle.use_assoc.specs.Accessible.{bad_item}
-use Rattle.use_assoc.specs.Table.{found_in}
+use Rattle.ftn_base.specs.Accessible.{bad_item}
+use Rattle.use_assoc.specs.steps.Table.{found_in}
 use Rattle.use_assoc.proofs.Modules.{first_found, first_passed}
 use Rattle.use_assoc.proofs.uses.first_not_public.Goals as goal
 

@@ -1,6 +1,6 @@
 use Rattle.std.proofs.Common.{◌≡◌, map, drop}
-use Rattle.use_assoc.specs.Table.{AreTables}
-use Rattle.use_assoc.specs.Accessible.{first_from}
+use Rattle.ftn_base.specs.Accessible.{first_from}
+use Rattle.use_assoc.specs.steps.Table.{AreTables}
 use Rattle.use_assoc.proofs.uses.first_not_public.Given as goal
 
 abbrev pub invariant-loop-list : goal.invariant-loop-list

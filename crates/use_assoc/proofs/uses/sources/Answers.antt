@@ -2,8 +2,8 @@ use Rattle.std.proofs.Common.{ap, ◌∙◌}
 use Rattle.std.specs.Str.{bytes_eq}
 use Rattle.std.proofs.lemmas.List.{drop_all}
 use Rattle.indexmap.specs.IndexSet.{insert_all}
-use Rattle.use_assoc.specs.Accessible.{items_in, sources_of}
-use Rattle.use_assoc.specs.Groups.{lists_in}
+use Rattle.ftn_base.specs.Accessible.{items_in, sources_of}
+use Rattle.use_assoc.specs.steps.Groups.{lists_in}
 use Rattle.use_assoc.proofs.Once.{names_among}
 use Rattle.use_assoc.proofs.uses.sources.Goals as goal
 

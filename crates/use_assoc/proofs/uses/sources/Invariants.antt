@@ -1,8 +1,8 @@
 use Rattle.std.proofs.Common.{◌≡◌, [], drop}
-use Rattle.indexmap.specs.IndexSet.{insert_all}
 use Rattle.std.specs.Str.{bytes_eq}
-use Rattle.use_assoc.specs.Accessible.{sources_of, items_in}
-use Rattle.use_assoc.specs.Groups.{lists_in}
+use Rattle.indexmap.specs.IndexSet.{insert_all}
+use Rattle.ftn_base.specs.Accessible.{sources_of, items_in}
+use Rattle.use_assoc.specs.steps.Groups.{lists_in}
 use Rattle.use_assoc.proofs.uses.sources.Given as goal
 
 abbrev pub invariant-loop-list : goal.invariant-loop-list

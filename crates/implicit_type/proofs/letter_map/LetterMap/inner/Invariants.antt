@@ -1,6 +1,6 @@
 use Rattle.std.proofs.Common.{◌≡◌, length, map, take, false}
 use Rattle.std.specs.List.{range_with_len}
-use Rattle.implicit_type.specs.Letters as spec
+use Rattle.ftn_base.specs.ImplicitLetters as spec
 use Rattle.implicit_type.proofs.letter_map.LetterMap.inner.Given as goal
 
 abbrev pub invariant-loop-number : goal.invariant-loop-number

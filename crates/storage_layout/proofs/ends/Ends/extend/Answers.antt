@@ -1,6 +1,6 @@
 use Rattle.std.proofs.Common.{ℕ, max, refl, ap, ◌∙◌}
 use Rattle.indexmap.specs.IndexMap.{get}
-use Rattle.storage_layout.specs.EndTable.{end_in, same_key}
+use Rattle.storage_layout.specs.steps.EndTable.{end_in, same_key}
 use Rattle.storage_layout.proofs.EndTables.{ended}
 use Rattle.storage_layout.proofs.ends.Ends.extend.Goals as goal
 

@@ -1,6 +1,7 @@
 use Rattle.std.proofs.Common.{◌++◌, ◌∙◌, ℕ, List, [], length, sym, ap, subst}
-use Rattle.storage_layout.specs.Members.{Member, all_members, sizes_of}
-use Rattle.storage_layout.specs.Kept.{AreMembers, AreTied}
+use Rattle.ftn_base.specs.declared.storage.Member.{Member}
+use Rattle.ftn_base.specs.StorageMembers.{all_members, sizes_of}
+use Rattle.storage_layout.specs.steps.Kept.{AreMembers, AreTied}
 use Rattle.storage_layout.proofs.Keeping.{sizes_counted, members_of_given, ties_within, ties_counted, given_are, are_kept}
 use Rattle.storage_layout.proofs.things.Things.new.Goals as goal
 

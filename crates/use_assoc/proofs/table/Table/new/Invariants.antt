@@ -1,6 +1,6 @@
 use Rattle.std.proofs.Common.{◌≡◌, ℕ, List, ◌++◌, drop}
-use Rattle.use_assoc.specs.Table.{found_in}
-use Rattle.use_assoc.specs.Accessible.{entities_of}
+use Rattle.ftn_base.specs.Accessible.{entities_of}
+use Rattle.use_assoc.specs.steps.Table.{found_in}
 use Rattle.use_assoc.proofs.table.Table.new.Given as goal
 
 abbrev pub invariant-loop-pair : goal.invariant-loop-pair

@@ -1,5 +1,5 @@
 use Rattle.std.proofs.Common.{map, ap, ◌∙◌}
-use Rattle.use_assoc.specs.Accessible.{entities_of}
+use Rattle.ftn_base.specs.Accessible.{entities_of}
 use Rattle.use_assoc.proofs.Modules.{table_added}
 use Rattle.use_assoc.proofs.table.Tables.prepare.Goals as goal
 
