@@ -2,7 +2,8 @@
 
 ghost use Rattle.std.specs.Prelude.{◌≡◌, ◌<◌, ◌&&◌, true, length, nat_lt, All};
 ghost use Rattle.std.specs.List.{list_all};
-ghost use Rattle.module_graph.specs.Uses.{AreKnown, used_lists};
+ghost use Rattle.ftn_base.specs.ModuleUses.{AreKnown};
+ghost use Rattle.module_graph.specs.Uses.{used_lists};
 
 use crate::tests::fields::{halves, numbers};
 use ftn_base::{Edition, EntityId, Name};
