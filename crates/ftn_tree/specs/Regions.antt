@@ -88,7 +88,7 @@ ends same within what _ = false
 -- ---- the order of statements
 
 -- the statements of a scoping unit (2.3.1), with executable statements and procedures where it may hold them. This project's choice:
--- PARAMETER stands after all IMPLICIT statements
+-- PARAMETER and DATA stand after all IMPLICIT statements, and DATA before all executable ones
 abbrev pub specification_part : List Section → List Section
 specification_part after = section.Any content.Use ∷ section.Any content.Implicit ∷ section.Any content.Specification ∷ after
 

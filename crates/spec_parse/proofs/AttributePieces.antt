@@ -16,8 +16,8 @@ use Rattle.expr_parse.specs.Combinators.{◌<$>◌}
 use Rattle.expr_parse.proofs.Pieces.{Piece, Apart, reread}
 use Rattle.expr_parse.proofs.AllKinds.{apart}
 use Rattle.expr_parse.proofs.Tokens.{only, none_of, word_piece, word_made, word_back, after_word, parens}
-use Rattle.spec_parse.specs.Attributes as spec
-use Rattle.spec_parse.specs.Attributes.{access_word, procedure_word, in_or_out, intent_mode, plain_attribute, word_attribute, attribute_kind, attribute, sees_access, sees_procedure}
+use Rattle.spec_parse.specs.steps.Attributes as spec
+use Rattle.spec_parse.specs.steps.Attributes.{access_word, procedure_word, in_or_out, intent_mode, plain_attribute, word_attribute, attribute_kind, attribute, sees_access, sees_procedure}
 use Rattle.spec_parse.proofs.Choices.{choice, chosen_plain}
 use Rattle.spec_parse.proofs.Flags.{word_flag}
 use Rattle.spec_parse.proofs.Seen.{starts_word, starts_word_at, starts_first, shows, hides}

@@ -15,8 +15,8 @@ use Rattle.expr_parse.proofs.AllKinds.{apart}
 use Rattle.expr_parse.proofs.Tokens.{only, none_of, mark_piece, bare_made, bare_back, after_mark, before_mark, parens}
 use Rattle.expr_parse.proofs.Lists.{list}
 use Rattle.expr_parse.proofs.Operands.{ReadsExpressions, goes_on}
-use Rattle.spec_parse.specs.Bounds as spec
-use Rattle.spec_parse.specs.Bounds.{upper_bound, rest_of_bound, bound, bounds}
+use Rattle.spec_parse.specs.steps.Bounds as spec
+use Rattle.spec_parse.specs.steps.Bounds.{upper_bound, rest_of_bound, bound, bounds}
 use Rattle.spec_parse.proofs.Choices.{choice, checked_piece}
 use Rattle.spec_parse.proofs.Seen.{seen, unseen, after_mark_first}
 use Rattle.spec_parse.proofs.Lengths.{starts_no_times}

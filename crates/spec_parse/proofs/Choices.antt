@@ -1,5 +1,6 @@
 -- Pieces that choose, and pieces that test what they have read.
 use Rattle.std.proofs.Common.{◌≡◌, refl, sym, ◌∙◌, ap, subst, ℕ, ◌+◌, Bool, true, false, ◌||◌, List, [], ◌∷◌, ◌++◌, length, Option, Some, None, ◌⊎◌, inl, inr, if◌then◌else◌}
+use Rattle.std.proofs.lemmas.Bool.{or_left, or_right}
 use Rattle.ftn_tree.specs.declared.token.Token.{Token}
 use Rattle.ftn_tree.specs.declared.lexeme.Lexeme.{Lexeme}
 use Rattle.ftn_tree.specs.Lexemes.{lexeme_of}
@@ -7,25 +8,17 @@ use Rattle.ftn_tree.specs.Phrases.{Phrase, provided}
 use Rattle.expr_parse.specs.Input.{Input, input, Reader, Outcome, and_then, pure, refuse}
 use Rattle.expr_parse.specs.Combinators.{◌<$>◌}
 use Rattle.expr_parse.proofs.Pieces.{Piece, Took, begins, begins_or, bind_some, bind_is, some_pair}
-use Rattle.spec_parse.specs.Choices.{choose, checked, numbered, picked, given}
+use Rattle.spec_parse.specs.steps.Choices.{choose, checked, numbered, picked, given}
 
 -- ---- one or the other
 
-true_left : (a b : Bool) → a ≡ true → (a || b) ≡ true
-true_left true b e = refl
-true_left false b e = absurd (cc e)
-
-true_right : (a b : Bool) → b ≡ true → (a || b) ≡ true
-true_right true b e = refl
-true_right false b e = e
-
-begins_left : (one other : Lexeme → Bool) (tokens : List Token) → begins one tokens ≡ true → begins (λ kind. one kind || other kind) tokens ≡ true
+pub begins_left : (one other : Lexeme → Bool) (tokens : List Token) → begins one tokens ≡ true → begins (λ kind. one kind || other kind) tokens ≡ true
 begins_left one other [] e = e
-begins_left one other (here ∷ rest) e = true_left (one (lexeme_of here)) (other (lexeme_of here)) e
+begins_left one other (here ∷ rest) e = or_left (one (lexeme_of here)) (other (lexeme_of here)) e
 
-begins_right : (one other : Lexeme → Bool) (tokens : List Token) → begins other tokens ≡ true → begins (λ kind. one kind || other kind) tokens ≡ true
+pub begins_right : (one other : Lexeme → Bool) (tokens : List Token) → begins other tokens ≡ true → begins (λ kind. one kind || other kind) tokens ≡ true
 begins_right one other [] e = e
-begins_right one other (here ∷ rest) e = true_right (one (lexeme_of here)) (other (lexeme_of here)) e
+begins_right one other (here ∷ rest) e = or_right (one (lexeme_of here)) (other (lexeme_of here)) e
 
 module _ {A B C : Type 0} (test : Input → Bool) (one : Piece A) (f : A → C) (other : Piece B) (g : B → C) (phrase : C → Phrase)
     (made_one : (a : A) (at : ℕ) (tokens : List Token) → one.phrase a at tokens → phrase (f a) at tokens)
@@ -45,11 +38,11 @@ module _ {A B C : Type 0} (test : Input → Bool) (one : Piece A) (f : A → C) 
 
   begun_one : (tokens : List Token) → (begins one.first tokens ≡ true) ⊎ ((tokens ≡ []) × (one.empty ≡ true)) → Begun tokens
   begun_one tokens (inl e) = inl (begins_left one.first other.first tokens e)
-  begun_one tokens (inr e) = inr (e.0, true_left one.empty other.empty e.1)
+  begun_one tokens (inr e) = inr (e.0, or_left one.empty other.empty e.1)
 
   begun_other : (tokens : List Token) → (begins other.first tokens ≡ true) ⊎ ((tokens ≡ []) × (other.empty ≡ true)) → Begun tokens
   begun_other tokens (inl e) = inl (begins_right one.first other.first tokens e)
-  begun_other tokens (inr e) = inr (e.0, true_right one.empty other.empty e.1)
+  begun_other tokens (inr e) = inr (e.0, or_right one.empty other.empty e.1)
 
   pub begun_choice : (c : C) (at : ℕ) (tokens : List Token) → phrase c at tokens → Begun tokens
   begun_choice c at tokens says = by (back c at tokens says) where

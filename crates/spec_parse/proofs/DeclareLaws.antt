@@ -21,11 +21,11 @@ use Rattle.expr_parse.proofs.AllKinds.{apart}
 use Rattle.expr_parse.proofs.Tokens.{only, word_kind}
 use Rattle.expr_parse.proofs.Commas.{tail}
 use Rattle.expr_parse.proofs.Operands.{ReadsExpressions}
-use Rattle.spec_parse.specs.Types.{type_spec}
-use Rattle.spec_parse.specs.Declaring as spec
-use Rattle.spec_parse.specs.Declaring.{declare_from, Parts}
-use Rattle.spec_parse.specs.Rows.{typed_row, begins_function}
-use Rattle.spec_parse.specs.Units.{function}
+use Rattle.spec_parse.specs.steps.Types.{type_spec}
+use Rattle.spec_parse.specs.steps.Declaring as spec
+use Rattle.spec_parse.specs.steps.Declaring.{declare_from, Parts}
+use Rattle.spec_parse.specs.steps.Rows.{typed_row, begins_function}
+use Rattle.spec_parse.specs.steps.Units.{function}
 use Rattle.spec_parse.proofs.Choices.{checked_piece}
 use Rattle.spec_parse.proofs.Flags.{flag}
 use Rattle.spec_parse.proofs.Wholes.{GivesForm, row_complete}

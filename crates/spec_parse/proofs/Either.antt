@@ -1,12 +1,14 @@
 -- Pieces that choose between two pieces of one kind of value, and pieces with another phrase for the same tokens.
 use Rattle.std.proofs.Common.{◌≡◌, refl, sym, ◌∙◌, ap, ℕ, ◌+◌, Bool, true, false, ◌||◌, List, [], ◌∷◌, ◌++◌, length, Some, ◌⊎◌, inl, inr, if◌then◌else◌}
+use Rattle.std.proofs.lemmas.Bool.{or_left, or_right}
 use Rattle.ftn_tree.specs.declared.token.Token.{Token}
 use Rattle.ftn_tree.specs.declared.lexeme.Lexeme.{Lexeme}
 use Rattle.ftn_tree.specs.Lexemes.{lexeme_of}
 use Rattle.ftn_tree.specs.Phrases.{Phrase}
 use Rattle.expr_parse.specs.Input.{Input, input}
 use Rattle.expr_parse.proofs.Pieces.{Piece, Took, begins, begins_or}
-use Rattle.spec_parse.specs.Choices.{choose}
+use Rattle.spec_parse.specs.steps.Choices.{choose}
+use Rattle.spec_parse.proofs.Choices.{begins_left, begins_right}
 
 module _ {A : Type 0} (piece : Piece A) (phrase : A → Phrase)
     (made : (a : A) (at : ℕ) (tokens : List Token) → piece.phrase a at tokens → phrase a at tokens)
@@ -33,22 +35,6 @@ module _ {A : Type 0} (piece : Piece A) (phrase : A → Phrase)
     complete = complete_rephrased;
   }
 
-true_left : (a b : Bool) → a ≡ true → (a || b) ≡ true
-true_left true b e = refl
-true_left false b e = absurd (cc e)
-
-true_right : (a b : Bool) → b ≡ true → (a || b) ≡ true
-true_right true b e = refl
-true_right false b e = e
-
-begins_left : (one other : Lexeme → Bool) (tokens : List Token) → begins one tokens ≡ true → begins (λ kind. one kind || other kind) tokens ≡ true
-begins_left one other [] e = e
-begins_left one other (here ∷ rest) e = true_left (one (lexeme_of here)) (other (lexeme_of here)) e
-
-begins_right : (one other : Lexeme → Bool) (tokens : List Token) → begins other tokens ≡ true → begins (λ kind. one kind || other kind) tokens ≡ true
-begins_right one other [] e = e
-begins_right one other (here ∷ rest) e = true_right (one (lexeme_of here)) (other (lexeme_of here)) e
-
 module _ {A : Type 0} (test : Input → Bool) (one other : Piece A) (extra : Lexeme → Bool)
     (is_one : (a : A) (at : ℕ) (tokens rest : List Token) → one.phrase a at tokens → begins one.more rest ≡ false → test (input at (tokens ++ rest)) ≡ true)
     (is_other : (a : A) (at : ℕ) (tokens rest : List Token) → other.phrase a at tokens → begins other.more rest ≡ false → begins extra rest ≡ false → test (input at (tokens ++ rest)) ≡ false) where
@@ -59,11 +45,11 @@ module _ {A : Type 0} (test : Input → Bool) (one other : Piece A) (extra : Lex
   begun_either a at tokens (inl says) = by (one.begun a at tokens says) where
     by : (begins one.first tokens ≡ true) ⊎ ((tokens ≡ []) × (one.empty ≡ true)) → (begins (λ kind. one.first kind || other.first kind) tokens ≡ true) ⊎ ((tokens ≡ []) × ((one.empty || other.empty) ≡ true))
     by (inl e) = inl (begins_left one.first other.first tokens e)
-    by (inr e) = inr (e.0, true_left one.empty other.empty e.1)
+    by (inr e) = inr (e.0, or_left one.empty other.empty e.1)
   begun_either a at tokens (inr says) = by (other.begun a at tokens says) where
     by : (begins other.first tokens ≡ true) ⊎ ((tokens ≡ []) × (other.empty ≡ true)) → (begins (λ kind. one.first kind || other.first kind) tokens ≡ true) ⊎ ((tokens ≡ []) × ((one.empty || other.empty) ≡ true))
     by (inl e) = inl (begins_right one.first other.first tokens e)
-    by (inr e) = inr (e.0, true_right one.empty other.empty e.1)
+    by (inr e) = inr (e.0, or_right one.empty other.empty e.1)
 
   pub sound_either : (i : Input) (a : A) (j : Input) → choose test one.read other.read i ≡ Some (a, j) → Took (either_phrase a) i j
   sound_either i a j e = by (test i) refl where

@@ -1,20 +1,21 @@
 -- END statements are read as they are written.
 use Rattle.std.proofs.Common.{◌≡◌, refl, ◌∙◌, ap, subst, ℕ, Bool, true, false, List, [], ◌∷◌, ◌++◌, Option, Some, None, codes}
+use Rattle.std.proofs.lemmas.List.{append-nil}
 use Rattle.std.specs.Str.{bytes_eq}
 use denote.Hole.Carrier
 use Rattle.ftn_tree.specs.declared.token.Token.{Token}
 use Rattle.ftn_tree.specs.declared.form.Form.{Form, out-Form}
 use Rattle.ftn_tree.specs.declared.form.Form.TheVariants as form
 use Rattle.ftn_tree.specs.declared.parts.EndWord.{EndWord}
-use Rattle.ftn_tree.specs.declared.parts.EndWord.TheVariants.{Program, Module, Subroutine, Function, Interface, If, Do, Select}
+use Rattle.ftn_tree.specs.declared.parts.EndWord.TheVariants.{Program, Module, BlockData, Subroutine, Function, Interface, If, Do, Select}
 use Rattle.ftn_tree.specs.declared.parts.Ending.{Ending}
-use Rattle.ftn_tree.specs.Phrases.{Phrase, ◌·◌, word, name, maybe}
-use Rattle.ftn_tree.specs.UnitForms.{end_text, end_words, end_of}
+use Rattle.ftn_tree.specs.Phrases.{Phrase, ◌·◌, word, name, whether, maybe}
+use Rattle.ftn_tree.specs.UnitForms.{is_parted, end_text, end_words, end_of}
 use Rattle.expr_parse.specs.Input.{input, Reader, sees_word}
 use Rattle.expr_parse.specs.Combinators.{◌<$>◌}
-use Rattle.spec_parse.specs.Endings.{ending, parted_end, end_row}
+use Rattle.spec_parse.specs.steps.Endings.{ending, parted_end, end_row}
 use Rattle.spec_parse.specs.declared.rows.Row.TheVariants as row
-use Rattle.spec_parse.specs.Rows.{find_row, attribute_row, row_at_front}
+use Rattle.spec_parse.specs.steps.Rows.{find_row, attribute_row, row_at_front}
 use Rattle.spec_parse.proofs.Regroup.{to_right, to_left, drop_end, add_end}
 use Rattle.spec_parse.proofs.EndPieces.{spelled, ending_parts, ending_of, ending_piece, parted_parts}
 use Rattle.spec_parse.proofs.FirstWords.{alone_leads, phrase_leads}
@@ -30,12 +31,17 @@ joined_form found = form.End (Some found)
 abbrev joined_row : Reader Form
 joined_row = joined_form <$> ending true
 
+-- what follows the first word of an END
+abbrev second : EndWord → Phrase
+second which = whether (is_parted which) (word (codes "data"))
+
 -- ---- sound
 
 written_parted : (found : Ending) (at : ℕ) (tokens : List Token) → (word (codes "end") · image (ending_parts false) (ending_of false) found) at tokens → end_of (Some found) at tokens
 written_parted found at tokens (before, after, split, says, (parts, same, says_parts)) =
+    let (both, rest, split_all, says_both, says_name) = to_left (word (codes "end")) (word (end_text parts.0) · second parts.0) (maybe name parts.1) at tokens (before, after, split, says, says_parts) in
     subst (λ found. end_of (Some found) at tokens) same
-    (to_left (word (codes "end")) (word (end_text parts.0)) (maybe name parts.1) at tokens (before, after, split, says, says_parts))
+    (both, rest, split_all, to_left (word (codes "end")) (word (end_text parts.0)) (second parts.0) at both says_both, says_name)
 
 parted_made : (found : Option Ending) (at : ℕ) (tokens : List Token) → parted_parts.phrase found at tokens → end_of found at tokens
 parted_made None at tokens says = drop_end (word (codes "end")) at tokens says
@@ -58,12 +64,8 @@ sound_end = chosen_sound (sees_word (codes "end")) parted_row joined_row sound_p
 
 -- ---- complete
 
-append_none : (tokens : List Token) → tokens ++ [] ≡ tokens
-append_none [] = refl
-append_none (here ∷ tokens) = ap (λ tokens. here ∷ tokens) (append_none tokens)
-
 shows_end : (at : ℕ) (tokens : List Token) → Starts (codes "end") tokens → sees_word (codes "end") (input at tokens) ≡ true
-shows_end at tokens e = subst (λ tokens. sees_word (codes "end") (input at tokens) ≡ true) (append_none tokens) (shows (codes "end") at tokens [] e)
+shows_end at tokens e = subst (λ tokens. sees_word (codes "end") (input at tokens) ≡ true) (append-nil tokens) (shows (codes "end") at tokens [] e)
 
 -- no joined word is END itself
 not_end : (which : EndWord) → bytes_eq (spelled true which) (codes "end") ≡ false
@@ -75,10 +77,12 @@ not_end Interface = refl
 not_end If = refl
 not_end Do = refl
 not_end Select = refl
+not_end (BlockData false) = refl
+not_end (BlockData true) = refl
 
 hides_end : (which : EndWord) (at : ℕ) (tokens : List Token) → Starts (spelled true which) tokens → sees_word (codes "end") (input at tokens) ≡ false
 hides_end which at tokens e =
-    subst (λ tokens. sees_word (codes "end") (input at tokens) ≡ false) (append_none tokens) (hides (spelled true which) (codes "end") at tokens [] (not_end which) e)
+    subst (λ tokens. sees_word (codes "end") (input at tokens) ≡ false) (append-nil tokens) (hides (spelled true which) (codes "end") at tokens [] (not_end which) e)
 
 complete_alone : (at : ℕ) (tokens : List Token) → word (codes "end") at tokens → GivesForm end_row at tokens (form.End None)
 unfolding end_row parted_end ending
@@ -93,12 +97,15 @@ complete_with : (joined : Bool) (which : EndWord) (named : Option ℕ) (at : ℕ
     → GivesForm end_row at tokens (form.End (Some (with_parts joined which named)))
 unfolding end_row parted_end ending
 complete_with true which named at tokens says =
-    choose_other (sees_word (codes "end")) parted_row joined_row (input at tokens) (hides_end which at tokens (starts_first (spelled true which) (maybe name named) at tokens says))
+    choose_other (sees_word (codes "end")) parted_row joined_row (input at tokens)
+    (hides_end which at tokens (starts_first (spelled true which) (second which · maybe name named) at tokens (to_right (word (spelled true which)) (second which) (maybe name named) at tokens says)))
     ∙ row_complete (ending_piece true) joined_form (with_parts true which named) at tokens ((which, named), refl, says)
 complete_with false which named at tokens says =
-    let (before, after, split, says_end, says_rest) = to_right (word (codes "end")) (word (end_text which)) (maybe name named) at tokens says in
+    let (both, last, split_all, says_both, says_name) = says in
+    let (before, after, split, says_end, says_rest) = to_right (word (codes "end")) (word (end_text which) · second which) (maybe name named) at tokens
+    (both, last, split_all, to_right (word (codes "end")) (word (end_text which)) (second which) at both says_both, says_name) in
     choose_one (sees_word (codes "end")) parted_row joined_row (input at tokens)
-    (shows_end at tokens (starts_first (codes "end") (word (end_text which) · maybe name named) at tokens (before, after, split, says_end, says_rest)))
+    (shows_end at tokens (starts_first (codes "end") ((word (end_text which) · second which) · maybe name named) at tokens (before, after, split, says_end, says_rest)))
     ∙ row_complete parted_parts form.End (Some (with_parts false which named)) at tokens (before, after, split, says_end, ((which, named), refl, says_rest))
 
 pub complete_end : (found : Option Ending) (at : ℕ) (tokens : List Token) → end_of found at tokens → GivesForm end_row at tokens (form.End found)
@@ -117,15 +124,19 @@ joined_row_is Interface = refl
 joined_row_is If = refl
 joined_row_is Do = refl
 joined_row_is Select = refl
+joined_row_is (BlockData false) = refl
+joined_row_is (BlockData true) = refl
 
 end_row_is : find_row (codes "end") ≡ row.End
 unfolding find_row attribute_row
 end_row_is = refl
 
 leads_with : (joined : Bool) (which : EndWord) (rest : Phrase) (at : ℕ) (tokens : List Token) → (end_words joined which · rest) at tokens → row_at_front tokens ≡ Some row.End
-leads_with true which rest at tokens says = phrase_leads (spelled true which) rest at tokens says ∙ ap Some (joined_row_is which)
+leads_with true which rest at tokens says =
+    phrase_leads (spelled true which) (second which · rest) at tokens (to_right (word (spelled true which)) (second which) rest at tokens says) ∙ ap Some (joined_row_is which)
 leads_with false which rest at tokens says =
-    phrase_leads (codes "end") (word (end_text which) · rest) at tokens (to_right (word (codes "end")) (word (end_text which)) rest at tokens says) ∙ ap Some end_row_is
+    let all = to_right (word (codes "end") · word (end_text which)) (second which) rest at tokens says in
+    phrase_leads (codes "end") (word (end_text which) · (second which · rest)) at tokens (to_right (word (codes "end")) (word (end_text which)) (second which · rest) at tokens all) ∙ ap Some end_row_is
 
 pub end_leads : (found : Option Ending) (at : ℕ) (tokens : List Token) → end_of found at tokens → row_at_front tokens ≡ Some row.End
 end_leads None at tokens says = alone_leads (codes "end") at tokens says ∙ ap Some end_row_is

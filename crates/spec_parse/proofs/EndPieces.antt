@@ -6,18 +6,19 @@ use Rattle.ftn_tree.specs.declared.token.TokenKind.TheVariants as kinds
 use Rattle.ftn_tree.specs.declared.lexeme.Lexeme.{Lexeme}
 use Rattle.ftn_tree.specs.declared.lexeme.Lexeme.TheVariants as lexeme
 use Rattle.ftn_tree.specs.declared.parts.EndWord.{EndWord}
-use Rattle.ftn_tree.specs.declared.parts.EndWord.TheVariants.{Program, Module, Subroutine, Function, Interface, If, Do, Select}
+use Rattle.ftn_tree.specs.declared.parts.EndWord.TheVariants.{Program, Module, BlockData, Subroutine, Function, Interface, If, Do, Select}
 use Rattle.ftn_tree.specs.declared.parts.Ending.{Ending}
 use Rattle.ftn_tree.specs.Lexemes.{lexeme_of, lexeme_by, is_word_at, is_text, same_lexeme}
 use Rattle.ftn_tree.specs.Phrases.{word}
-use Rattle.ftn_tree.specs.UnitForms.{end_text}
+use Rattle.ftn_tree.specs.UnitForms.{end_text, is_parted}
 use Rattle.expr_parse.specs.Input.{Input}
 use Rattle.expr_parse.proofs.Pieces.{Piece, seq, option, reread}
 use Rattle.expr_parse.proofs.AllKinds.{within}
 use Rattle.expr_parse.proofs.Tokens.{only, apart_none, name_piece, after_word}
-use Rattle.spec_parse.specs.Endings.{end_word, joined_end_word, word_by, word_of_kind, word_at_front, taken_word, ending_word}
+use Rattle.spec_parse.specs.steps.Endings.{end_word, joined_end_word, word_by, word_of_kind, word_at_front, taken_word, ending_word, ending_words}
 use Rattle.spec_parse.proofs.Either.{rephrased}
 use Rattle.spec_parse.proofs.FirstWords.{text_is}
+use Rattle.spec_parse.proofs.Trailed.{trailed_piece}
 use Rattle.spec_parse.proofs.UnitPieces.{name_only}
 use Rattle.spec_parse.proofs.Valued.{valued, valued_phrase, at_front, taken, read_value}
 use Rattle.spec_parse.proofs.Wholes.{made_of}
@@ -35,7 +36,7 @@ pick spell [] text = None
 pick spell (which ∷ rest) text = if is_text text (spell which) then Some which else pick spell rest text
 
 abbrev words : List EndWord
-words = Program ∷ Module ∷ Subroutine ∷ Function ∷ Interface ∷ If ∷ Do ∷ Select ∷ []
+words = Program ∷ Module ∷ Subroutine ∷ Function ∷ Interface ∷ If ∷ Do ∷ Select ∷ BlockData false ∷ BlockData true ∷ []
 
 picked_is : (spell : EndWord → List ℕ) (from : List EndWord) (text : List ℕ) (which : EndWord) → pick spell from text ≡ Some which → is_text text (spell which) ≡ true
 picked_is spell [] text which e = absurd (cc e)
@@ -61,6 +62,8 @@ found true Interface = refl
 found true If = refl
 found true Do = refl
 found true Select = refl
+found true (BlockData false) = refl
+found true (BlockData true) = refl
 found false Program = refl
 found false Module = refl
 found false Subroutine = refl
@@ -69,6 +72,8 @@ found false Interface = refl
 found false If = refl
 found false Do = refl
 found false Select = refl
+found false (BlockData false) = refl
+found false (BlockData true) = refl
 
 -- ---- their tokens
 
@@ -131,8 +136,18 @@ module _ (joined : Bool) where
   abbrev pub end_word_piece : Piece EndWord
   end_word_piece = reread (rephrased value_piece (λ which. word (spelled joined which)) word_made word_back) (ending_word joined) same_reader
 
+  abbrev words_trailed : Piece EndWord
+  words_trailed = trailed_piece is_parted (codes "data") end_word_piece refl (apart_none (only lexeme.Word))
+
+  pub words_read : (i : Input) → ending_words joined i ≡ words_trailed.read i
+  unfolding ending_words
+  words_read i = refl
+
+  abbrev pub end_words_piece : Piece EndWord
+  end_words_piece = reread words_trailed (ending_words joined) words_read
+
   abbrev pub ending_parts : Piece (EndWord × Option ℕ)
-  ending_parts = seq end_word_piece (option name_piece lexeme.Word refl name_only) (apart_none _)
+  ending_parts = seq end_words_piece (option name_piece lexeme.Word refl name_only) (apart_none _)
 
   abbrev pub ending_of : EndWord × Option ℕ → Ending
   ending_of parts = record { word = parts.0; joined = joined; name = parts.1 }

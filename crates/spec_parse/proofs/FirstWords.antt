@@ -9,7 +9,7 @@ use Rattle.ftn_tree.specs.Lexemes.{is_word, is_word_at, is_text}
 use Rattle.ftn_tree.specs.Phrases.{Phrase, ◌·◌, word}
 use Rattle.expr_parse.specs.Input.{input}
 use Rattle.spec_parse.specs.declared.rows.Row.{Row}
-use Rattle.spec_parse.specs.Rows.{find_row, row_by, row_at_front, row_reader, read_by, statement}
+use Rattle.spec_parse.specs.steps.Rows.{find_row, row_by, row_at_front, row_reader, read_by, statement}
 use Rattle.spec_parse.proofs.Wholes.{GivesForm}
 
 pub text_is : (value text : List ℕ) → is_text value text ≡ true → value ≡ text

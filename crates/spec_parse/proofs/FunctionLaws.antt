@@ -1,5 +1,6 @@
 -- FUNCTION statements are read as they are written.
 use Rattle.std.proofs.Common.{◌≡◌, refl, sym, ◌∙◌, ap, subst, ℕ, ◌+◌, Bool, true, false, ◌&&◌, List, [], ◌∷◌, ◌++◌, length, Option, Some, None, codes, if◌then◌else◌}
+use Rattle.std.proofs.lemmas.List.{append-nil}
 use denote.Hole.Carrier
 use Rattle.ftn_tree.specs.declared.token.Token.{Token}
 use Rattle.ftn_tree.specs.declared.form.Form.{Form, out-Form}
@@ -19,11 +20,11 @@ use Rattle.expr_parse.proofs.AllKinds.{apart}
 use Rattle.expr_parse.proofs.Operands.{ReadsExpressions}
 use Rattle.expr_parse.proofs.Pieces.{Took, Apart, begins, bind_some, some_pair, took_both, placed}
 use Rattle.expr_parse.proofs.Tokens.{only, is_same, word_kind}
-use Rattle.spec_parse.specs.Names.{dummies}
-use Rattle.spec_parse.specs.Rows.{begins_function, typed_row}
-use Rattle.spec_parse.specs.Types.{type_spec}
-use Rattle.spec_parse.specs.Declaring.{declare_from}
-use Rattle.spec_parse.specs.Units.{function, function_parts, result_name}
+use Rattle.spec_parse.specs.steps.Names.{dummies}
+use Rattle.spec_parse.specs.steps.Rows.{begins_function, typed_row}
+use Rattle.spec_parse.specs.steps.Types.{type_spec}
+use Rattle.spec_parse.specs.steps.Declaring.{declare_from}
+use Rattle.spec_parse.specs.steps.Units.{function, function_parts, result_name}
 use Rattle.spec_parse.proofs.DeclareLaws.{declare_took}
 use Rattle.spec_parse.proofs.Regroup.{led_by, drop_none, add_none}
 use Rattle.spec_parse.proofs.TypePieces.{type_piece}
@@ -91,14 +92,10 @@ ended made form k j e = by k.rest refl e where
   by [] is e = (is, (some_pair made form k j e).0)
   by (here ∷ rest) is e = absurd (cc e)
 
-append_none : (tokens : List Token) → tokens ++ [] ≡ tokens
-append_none [] = refl
-append_none (here ∷ tokens) = ap (λ tokens. here ∷ tokens) (append_none tokens)
-
 took_all : (phrase : Form → Phrase) (made form : Form) (at : ℕ) (tokens : List Token) (k j : Input) → Took (phrase made) (input at tokens) k → and_then (finish k) (λ u. pure made) ≡ Some (form, j) → phrase form at tokens
 took_all phrase made form at tokens k j took e =
     let end = ended made form k j e in
-    let all : tokens ≡ took.tokens = took.rest ∙ ap (λ rest. took.tokens ++ rest) end.0 ∙ append_none took.tokens in
+    let all : tokens ≡ took.tokens = took.rest ∙ ap (λ rest. took.tokens ++ rest) end.0 ∙ append-nil took.tokens in
     subst (λ form. phrase form at tokens) end.1 (subst (λ tokens. phrase made at tokens) (sym all) took.says)
 
 abbrev choosing : TypeSpec → Reader Form

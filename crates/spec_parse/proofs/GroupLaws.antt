@@ -1,5 +1,6 @@
 -- COMMON is read as it is written.
 use Rattle.std.proofs.Common.{◌≡◌, refl, sym, ◌∙◌, ap, subst, arith, ℕ, zero, suc, ◌+◌, ◌≤◌, Bool, true, false, ◌&&◌, not, List, [], ◌∷◌, ◌++◌, length, Option, Some, append_assoc, ◌⊎◌, inl, inr, codes, if◌then◌else◌}
+use Rattle.std.proofs.lemmas.List.{append-nil}
 use Rattle.std.proofs.lemmas.Grind.{common_steps}
 use denote.Hole.Carrier
 use Rattle.ftn_tree.specs.declared.token.Token.{Token}
@@ -24,40 +25,13 @@ use Rattle.expr_parse.proofs.AllKinds.{apart}
 use Rattle.expr_parse.proofs.Tokens.{only, after_word, is_same}
 use Rattle.expr_parse.proofs.Ends.{any}
 use Rattle.expr_parse.proofs.Operands.{ReadsExpressions}
-use Rattle.spec_parse.specs.Blocks as spec
-use Rattle.spec_parse.specs.Blocks.{members, goes_on, is_slash_at, first_group, later_group, groups_from, all_groups, groups, common}
+use Rattle.spec_parse.specs.steps.Blocks as spec
+use Rattle.spec_parse.specs.steps.Blocks.{members, goes_on, is_slash_at, first_group, later_group, groups_from, all_groups, groups, common}
 use Rattle.spec_parse.proofs.Flags.{flag}
+use Rattle.spec_parse.proofs.Regroup.{to_right, to_left, add_none, drop_none}
 use Rattle.spec_parse.proofs.Wholes.{Sound, GivesForm, row_sound, row_complete}
 use Rattle.spec_parse.proofs.Members.{is_slash, slash_is, Stops, members_sound, members_complete, members_named}
 use Rattle.spec_parse.proofs.Groups.{block_text, block_piece, block_begins, first_piece}
-
--- ---- phrases regrouped
-
-none_in_front : (at : ℕ) (tokens : List Token) (phrase : Phrase) → phrase at tokens → (nothing · phrase) at tokens
-none_in_front at tokens phrase says = ([], tokens, refl, refl, subst (λ place. phrase place tokens) (sym (plus_none at)) says)
-
-off_front : (at : ℕ) (tokens : List Token) (phrase : Phrase) → (nothing · phrase) at tokens → phrase at tokens
-off_front at tokens phrase (before, after, split, none, says) =
-    subst (λ tokens. phrase at tokens) (sym (split ∙ ap (λ before. before ++ after) none))
-    (subst (λ place. phrase place after) (ap (λ before. at + length before) none ∙ plus_none at) says)
-
-to_right : (one other last : Phrase) (at : ℕ) (tokens : List Token) → ((one · other) · last) at tokens → (one · other · last) at tokens
-to_right one other last at tokens (both, after, split, (before, middle, split_both, says, says_other), says_last) = (
-  before,
-  middle ++ after,
-  split ∙ ap (λ both. both ++ after) split_both ∙ append_assoc before middle after,
-  says,
-  (middle, after, refl, says_other, subst (λ place. last place after) (ap (λ both. at + length both) split_both ∙ sym (placed at before middle)) says_last),
-)
-
-to_left : (one other last : Phrase) (at : ℕ) (tokens : List Token) → (one · other · last) at tokens → ((one · other) · last) at tokens
-to_left one other last at tokens (before, both, split, says, (middle, after, split_both, says_other, says_last)) = (
-  before ++ middle,
-  after,
-  split ∙ ap (λ both. before ++ both) split_both ∙ sym (append_assoc before middle after),
-  (before, middle, refl, says, says_other),
-  subst (λ place. last place after) (placed at before middle) says_last,
-)
 
 -- ---- what follows a group
 
@@ -194,7 +168,7 @@ module _ (laws : ReadsExpressions) where
       let same = some_pair (spec.first_of both) g k j gives in
       let took = headed_sound first_piece word_no_first i both k read in
       subst (λ g. Took (first_text g) i j) same.0 (subst (λ j. Took (first_text (spec.first_of both)) i j) same.1
-      (record { tokens = took.tokens; rest = took.rest; at = took.at; says = (refl, none_in_front i.at took.tokens (form.block_name both.0 · commas form.member both.1) took.says) }))
+      (record { tokens = took.tokens; rest = took.rest; at = took.at; says = (refl, add_none (form.block_name both.0 · commas form.member both.1) i.at took.tokens took.says) }))
 
   first_by : (comma : Bool) (block : BlockName) (all : List CommonMember) (at : ℕ) (tokens rest : List Token) → first_text (spec.group_of comma block all) at tokens → Stops rest
       → first_group (input at (tokens ++ rest)) ≡ Some (spec.group_of comma block all, input (at + length tokens) rest)
@@ -202,7 +176,7 @@ module _ (laws : ReadsExpressions) where
   first_by true block all at tokens rest (is, says) stops = absurd (cc is)
   first_by false block all at tokens rest (is, says) stops =
       bind_is ((first_piece.read ⊗ members) (input at (tokens ++ rest))) (λ both. pure (spec.first_of both)) (block, all) (input (at + length tokens) rest) (Some (spec.group_of false block all, input (at + length tokens) rest))
-      (headed_complete first_piece word_no_first block all at tokens rest (off_front at tokens (form.block_name block · commas form.member all) says) stops) refl
+      (headed_complete first_piece word_no_first block all at tokens rest (drop_none (form.block_name block · commas form.member all) at tokens says) stops) refl
 
   -- ---- a later group
 
@@ -243,11 +217,9 @@ module _ (laws : ReadsExpressions) where
       let same = some_pair found all i j e in
       record {
         items = [];
-        is = sym same.0 ∙ append_none found;
+        is = sym same.0 ∙ sym (append-nil found);
         took = subst (λ j. Took nothing i j) same.1 (record { tokens = []; rest = refl; at = sym (plus_none i.at); says = refl });
-      } where
-        append_none : (found : List CommonGroup) → found ≡ found ++ []
-        append_none found = grind (arith, common_steps)
+      }
 
   abbrev turn : ℕ → List CommonGroup → Bool → Reader (List CommonGroup)
   turn n found done i = if done then Some (found, i) else (later_group >>= (λ next. groups_from n (found ++ next ∷ []))) i
@@ -272,12 +244,8 @@ module _ (laws : ReadsExpressions) where
 
   read_none : (n : ℕ) (found : List CommonGroup) (at : ℕ) → Reads n found [] at []
   unfolding groups_from is_done
-  read_none zero found at = ap (λ found. Some (found, input at [])) (append_none found) ∙ ap (λ place. Some (found ++ [], input place [])) (sym (plus_none at)) where
-    append_none : (found : List CommonGroup) → found ≡ found ++ []
-    append_none found = grind (arith, common_steps)
-  read_none (suc n) found at = ap (λ found. Some (found, input at [])) (append_none found) ∙ ap (λ place. Some (found ++ [], input place [])) (sym (plus_none at)) where
-    append_none : (found : List CommonGroup) → found ≡ found ++ []
-    append_none found = grind (arith, common_steps)
+  read_none zero found at = ap (λ found. Some (found, input at [])) (sym (append-nil found)) ∙ ap (λ place. Some (found ++ [], input place [])) (sym (plus_none at))
+  read_none (suc n) found at = ap (λ found. Some (found, input at [])) (sym (append-nil found)) ∙ ap (λ place. Some (found ++ [], input place [])) (sym (plus_none at))
 
   -- a group takes a token at least
   nonempty : (g : CommonGroup) (at : ℕ) (tokens rest : List Token) → later_text g at tokens → done_at (tokens ++ rest) ≡ false
@@ -345,9 +313,6 @@ module _ (laws : ReadsExpressions) where
   no_rest [] e = refl
   no_rest (here ∷ rest) e = absurd (cc e)
 
-  append_none : (tokens : List Token) → tokens ++ [] ≡ tokens
-  append_none tokens = grind (arith, common_steps)
-
   same_length : (tokens : List Token) → length tokens ≤ length tokens
   same_length tokens = omega arith
 
@@ -364,7 +329,7 @@ module _ (laws : ReadsExpressions) where
   all_complete (first ∷ items) at tokens rest (before, after, split, says, says_rest) stops =
       let read = subst (λ tokens. groups (input at tokens) ≡ Some (first ∷ items, input (at + length tokens) [])) (sym split) (all_read first items at before after says says_rest) in
       subst (λ rest. groups (input at (tokens ++ rest)) ≡ Some (first ∷ items, input (at + length tokens) rest)) (sym (no_rest rest stops))
-      (subst (λ all. groups (input at all) ≡ Some (first ∷ items, input (at + length tokens) [])) (sym (append_none tokens)) read)
+      (subst (λ all. groups (input at all) ≡ Some (first ∷ items, input (at + length tokens) [])) (sym (append-nil tokens)) read)
 
   -- all groups, to the end of the statement
   abbrev pub groups_piece : Piece (List CommonGroup)

@@ -14,8 +14,8 @@ use Rattle.expr_parse.specs.Combinators.{◌<$>◌}
 use Rattle.expr_parse.proofs.Pieces.{Piece, Took, Apart, begins, some_pair, plus_none, seq, reread}
 use Rattle.expr_parse.proofs.AllKinds.{apart, within}
 use Rattle.expr_parse.proofs.Tokens.{only, none_of, apart_none, mark_piece, name_piece, before_mark, bare_made, bare_back}
-use Rattle.spec_parse.specs.Blocks as spec
-use Rattle.spec_parse.specs.Blocks.{rest_of_block, block, first_block, members, goes_on, sees_slash, is_slash_at, first_group, later_group, groups_from, all_groups, groups, common}
+use Rattle.spec_parse.specs.steps.Blocks as spec
+use Rattle.spec_parse.specs.steps.Blocks.{rest_of_block, block, first_block, members, goes_on, sees_slash, is_slash_at, first_group, later_group, groups_from, all_groups, groups, common}
 use Rattle.spec_parse.proofs.Choices.{choice}
 use Rattle.spec_parse.proofs.Seen.{seen, unseen}
 use Rattle.spec_parse.proofs.TypePieces.{itself}

@@ -23,7 +23,7 @@ use Rattle.expr_parse.proofs.AllKinds.{apart}
 use Rattle.expr_parse.proofs.Lists.{list}
 use Rattle.expr_parse.proofs.Pieces.{Piece, Apart, begins, seq}
 use Rattle.expr_parse.proofs.Tokens.{only, none_of, word_piece, word_made, word_back, after_word, is_same}
-use Rattle.spec_parse.specs.Implicits.{group_of, is_plain, is_length}
+use Rattle.spec_parse.specs.steps.Implicits.{group_of, is_plain, is_length}
 use Rattle.spec_parse.proofs.Either.{either, rephrased}
 use Rattle.spec_parse.proofs.FirstWords.{text_is}
 use Rattle.spec_parse.proofs.ImplicitLengths.{length_piece, length_made, length_back, given_piece, paren_text}

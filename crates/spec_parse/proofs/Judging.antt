@@ -12,7 +12,7 @@ use Rattle.expr_parse.specs.Input.{Input, input}
 use Rattle.expr_parse.specs.Exact.{FitsNone, IsExact, misfit}
 use Rattle.expr_parse.proofs.Deep.{decided_deep, decided_shallow}
 use Rattle.expr_parse.proofs.Pieces.{some_pair}
-use Rattle.spec_parse.specs.Rows.{statement}
+use Rattle.spec_parse.specs.steps.Rows.{statement}
 use Rattle.spec_parse.proofs.StatementLaws.{statement_sound, statement_reads}
 
 fault_of : (at : ℕ) (tokens : List Token) → FitsNone is_specification at tokens → IsExact is_specification at tokens (Err (misfit tokens))

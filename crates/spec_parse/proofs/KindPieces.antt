@@ -18,9 +18,9 @@ use Rattle.expr_parse.specs.Combinators.{◌<$>◌}
 use Rattle.expr_parse.proofs.Pieces.{Piece, reread, mapped}
 use Rattle.expr_parse.proofs.Tokens.{none_of, word_piece, word_made, word_back, after_word}
 use Rattle.expr_parse.proofs.Operands.{ReadsExpressions}
-use Rattle.spec_parse.specs.Choices.{choose}
-use Rattle.spec_parse.specs.Attributes as spec
-use Rattle.spec_parse.specs.Attributes.{plain_attribute, word_attribute, attribute_kind, attribute, sees_access, sees_procedure}
+use Rattle.spec_parse.specs.steps.Choices.{choose}
+use Rattle.spec_parse.specs.steps.Attributes as spec
+use Rattle.spec_parse.specs.steps.Attributes.{plain_attribute, word_attribute, attribute_kind, attribute, sees_access, sees_procedure}
 use Rattle.spec_parse.proofs.Choices.{choice, chosen_plain, numbered_piece, numbered_phrase}
 use Rattle.spec_parse.proofs.Seen.{Starts, starts_word, starts_word_at, starts_first, shows, hides}
 use Rattle.spec_parse.proofs.BoundPieces.{bounds_piece}

@@ -21,7 +21,7 @@ use Rattle.expr_parse.proofs.Pieces.{Apart, begins, some_pair}
 use Rattle.expr_parse.proofs.AllKinds.{apart}
 use Rattle.expr_parse.proofs.Tokens.{only, is_same, same_is}
 use Rattle.expr_parse.proofs.Operands.{ReadsExpressions, starts, goes_on, begun_expr}
-use Rattle.spec_parse.specs.Types.{whole_of, whole_at, sees_len, is_equals_at}
+use Rattle.spec_parse.specs.steps.Types.{whole_of, whole_at, sees_len, is_equals_at}
 use Rattle.spec_parse.proofs.Seen.{hidden}
 
 -- ---- facts on kinds

@@ -15,7 +15,7 @@ use Rattle.expr_parse.proofs.AllKinds.{apart, within}
 use Rattle.expr_parse.proofs.Lists.{list}
 use Rattle.expr_parse.proofs.Pieces.{Piece, Apart, seq, option, mapped, reread}
 use Rattle.expr_parse.proofs.Tokens.{only, apart_none, after_mark, parens}
-use Rattle.spec_parse.specs.Implicits.{one_byte, letter_by, letter_at_front, taken_letter, letter, in_order, number_of_last, range_of, Ends}
+use Rattle.spec_parse.specs.steps.Implicits.{one_byte, letter_by, letter_at_front, taken_letter, letter, in_order, number_of_last, range_of, Ends}
 use Rattle.spec_parse.proofs.Choices.{checked_piece}
 use Rattle.spec_parse.proofs.Either.{rephrased}
 use Rattle.spec_parse.proofs.Regroup.{drop_end, add_end}

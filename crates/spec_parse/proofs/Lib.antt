@@ -23,6 +23,7 @@ pub mod Regroup
 pub mod UnitLaws
 pub mod UsePieces
 pub mod UseLaws
+pub mod Trailed
 pub mod EndPieces
 pub mod EndLaws
 pub mod FunctionLaws
@@ -32,5 +33,9 @@ pub mod Letters
 pub mod ImplicitLengths
 pub mod ImplicitTypes
 pub mod ImplicitLaws
+pub mod Told
+pub mod Each
+pub mod DataValues
+pub mod DataLaws
 pub mod StatementLaws
 pub mod Judging

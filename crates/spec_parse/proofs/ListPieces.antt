@@ -8,7 +8,7 @@ use Rattle.expr_parse.proofs.Pieces.{Piece, Apart, seq, mapped}
 use Rattle.expr_parse.proofs.Tokens.{only}
 use Rattle.expr_parse.proofs.Lists.{list}
 use Rattle.expr_parse.proofs.Ends.{unless_done}
-use Rattle.spec_parse.specs.Lists.{or_none}
+use Rattle.spec_parse.specs.steps.Lists.{or_none}
 use Rattle.spec_parse.proofs.Flags.{flag}
 
 module _ {A : Type 0} (piece : Piece A) (filled : piece.empty ≡ false) (no_comma : Apart (only Comma) piece.more) (no_colons : Apart piece.first (only Colons)) where

@@ -1,5 +1,6 @@
 -- The members of a group of COMMON are read as they are written.
 use Rattle.std.proofs.Common.{◌≡◌, refl, sym, ◌∙◌, ap, subst, arith, ℕ, zero, suc, ◌+◌, ◌≤◌, Bool, true, false, ◌||◌, ◌&&◌, not, List, [], ◌∷◌, ◌++◌, length, Option, Some, append_assoc, ◌⊎◌, inl, inr, if◌then◌else◌}
+use Rattle.std.proofs.lemmas.List.{append-nil}
 use Rattle.std.proofs.lemmas.Grind.{common_steps}
 use Rattle.ftn_tree.specs.declared.token.Token.{Token}
 use Rattle.ftn_tree.specs.declared.parts.BoundPair.{BoundPair}
@@ -15,8 +16,8 @@ use Rattle.expr_parse.proofs.Tokens.{only, apart_none, name_piece, is_same}
 use Rattle.expr_parse.proofs.Lists.{took_mark}
 use Rattle.expr_parse.proofs.AllKinds.{apart}
 use Rattle.expr_parse.proofs.Operands.{ReadsExpressions}
-use Rattle.spec_parse.specs.Blocks as spec
-use Rattle.spec_parse.specs.Blocks.{member, members, members_from, goes_on, is_slash_at}
+use Rattle.spec_parse.specs.steps.Blocks as spec
+use Rattle.spec_parse.specs.steps.Blocks.{member, members, members_from, goes_on, is_slash_at}
 use Rattle.spec_parse.proofs.BoundPieces.{maybe_bounds_piece}
 
 -- a mark that begins a block
@@ -179,9 +180,7 @@ module _ (laws : ReadsExpressions) where
   few n before later comma e = grind (arith, common_steps)
 
   none_left : (tokens before : List Token) → tokens ≡ before ++ [] → before ≡ tokens
-  none_left tokens before e = sym (e ∙ append_none before) where
-    append_none : (before : List Token) → before ++ [] ≡ before
-    append_none before = grind (arith, common_steps)
+  none_left tokens before e = sym (e ∙ append-nil before)
 
   too_few : (tokens : List Token) → 1 ≤ length tokens → length tokens ≤ 0 → ⊥
   too_few tokens e f = grind (arith, common_steps)

@@ -15,11 +15,11 @@ use Rattle.expr_parse.specs.Input.{Input, input, Reader, and_then, pure, expect,
 use Rattle.expr_parse.specs.Reading.{whole_value, whole_at, constant_by, take_one, constant}
 use Rattle.expr_parse.proofs.Pieces.{Piece, reread}
 use Rattle.expr_parse.proofs.Tokens.{is_same}
-use Rattle.spec_parse.specs.Implicits.{number_at, whole_number}
+use Rattle.spec_parse.specs.steps.Implicits.{number_at, whole_number}
 use Rattle.spec_parse.proofs.Either.{rephrased}
 use Rattle.spec_parse.proofs.Valued.{valued, valued_phrase, taken, read_value}
 
-abbrev number_by : Lexeme → List ℕ → Option ℤ
+abbrev pub number_by : Lexeme → List ℕ → Option ℤ
 number_by lexeme.Whole text = whole_value text
 number_by _ text = None
 
@@ -60,10 +60,10 @@ whole_by : (here : Token) (kind : Lexeme) (value : ℤ) → lexeme_of here ≡ k
 whole_by here lexeme.Whole value is means = let (value_is, small) = digits_mean here.value value means in record { digits = is; value_is = value_is; small = small }
 whole_by here _ value is means = absurd (cc means)
 
-is_number : (here : Token) (value : ℤ) → number_here here ≡ Some value → IsNumber here value
+pub is_number : (here : Token) (value : ℤ) → number_here here ≡ Some value → IsNumber here value
 is_number here value is = whole_by here (lexeme_of here) value refl is
 
-number_is : (here : Token) (value : ℤ) → IsNumber here value → number_here here ≡ Some value
+pub number_is : (here : Token) (value : ℤ) → IsNumber here value → number_here here ≡ Some value
 number_is here value number = ap (λ kind. number_by kind here.value) number.digits ∙ means here.value value number.value_is number.small
 
 abbrev pub number_phrase : ℕ × ℤ → Phrase

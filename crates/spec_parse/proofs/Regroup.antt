@@ -1,12 +1,10 @@
 -- Phrases of the same tokens.
 use Rattle.std.proofs.Common.{◌≡◌, refl, sym, ◌∙◌, ap, subst, arith, ℕ, ◌+◌, List, [], ◌∷◌, ◌++◌, length, append_assoc}
+use Rattle.std.proofs.lemmas.List.{append-nil}
 use Rattle.std.proofs.lemmas.Grind.{common_steps}
 use Rattle.ftn_tree.specs.declared.token.Token.{Token}
 use Rattle.ftn_tree.specs.Phrases.{Phrase, ◌·◌, nothing}
 use Rattle.expr_parse.proofs.Pieces.{placed, plus_none}
-
-append_none : (tokens : List Token) → tokens ++ [] ≡ tokens
-append_none tokens = grind (arith, common_steps)
 
 -- where three phrases follow one another
 pub to_right : (one other third : Phrase) (at : ℕ) (tokens : List Token) → ((one · other) · third) at tokens → (one · (other · third)) at tokens
@@ -37,10 +35,10 @@ add_none phrase at tokens says = ([], tokens, refl, refl, subst (λ place. phras
 
 pub drop_end : (phrase : Phrase) (at : ℕ) (tokens : List Token) → (phrase · nothing) at tokens → phrase at tokens
 drop_end phrase at tokens (before, after, split, says, none) =
-    subst (λ tokens. phrase at tokens) (sym (split ∙ ap (λ after. before ++ after) none ∙ append_none before)) says
+    subst (λ tokens. phrase at tokens) (sym (split ∙ ap (λ after. before ++ after) none ∙ append-nil before)) says
 
 pub add_end : (phrase : Phrase) (at : ℕ) (tokens : List Token) → phrase at tokens → (phrase · nothing) at tokens
-add_end phrase at tokens says = (tokens, [], sym (append_none tokens), says, refl)
+add_end phrase at tokens says = (tokens, [], sym (append-nil tokens), says, refl)
 
 -- tokens that begin with that one
 pub led_by : (here : Token) (before after rest tokens : List Token) → tokens ≡ before ++ after → before ≡ here ∷ [] → after ≡ rest → tokens ≡ here ∷ rest

@@ -15,9 +15,9 @@ use Rattle.ftn_tree.specs.declared.parts.Designator.{Designator}
 use Rattle.ftn_tree.specs.UnitForms.{unit_form_at}
 use Rattle.ftn_tree.specs.SpecificationForms.{declaration_at}
 use Rattle.expr_parse.proofs.Operands.{ReadsExpressions}
-use Rattle.spec_parse.specs.Attributes as spec
-use Rattle.spec_parse.specs.Attributes.{dimension, parameter, save, access, external, intent}
-use Rattle.spec_parse.specs.Blocks.{equivalence}
+use Rattle.spec_parse.specs.steps.Attributes as spec
+use Rattle.spec_parse.specs.steps.Attributes.{dimension, parameter, save, access, external, intent}
+use Rattle.spec_parse.specs.steps.Blocks.{equivalence}
 use Rattle.spec_parse.proofs.Wholes.{Sound, GivesForm, row_sound, row_complete}
 use Rattle.spec_parse.proofs.StatementPieces.{access_parts, external_parts, intent_parts, save_parts, dimension_parts, parameter_parts, equivalence_parts}
 

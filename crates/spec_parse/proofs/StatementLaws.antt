@@ -13,7 +13,7 @@ use Rattle.ftn_tree.specs.declared.parts.AccessWord.TheVariants.{Public, Private
 use Rattle.ftn_tree.specs.declared.parts.ProcedureWord.{ProcedureWord}
 use Rattle.ftn_tree.specs.declared.parts.ProcedureWord.TheVariants as procedure
 use Rattle.ftn_tree.specs.Layers.{FormLayer}
-use Rattle.ftn_tree.specs.Phrases.{word}
+use Rattle.ftn_tree.specs.Phrases.{word, name, maybe}
 use Rattle.ftn_tree.specs.TypeForms.{type_text}
 use Rattle.ftn_tree.specs.SpecificationForms.{access_word, procedure_word}
 use Rattle.ftn_tree.specs.UnitForms.{unit_form_at}
@@ -21,7 +21,7 @@ use Rattle.expr_parse.specs.Input.{Input, input}
 use Rattle.expr_parse.proofs.Laws.{expression_laws}
 use Rattle.spec_parse.specs.declared.rows.Row.{Row}
 use Rattle.spec_parse.specs.declared.rows.Row.TheVariants as row
-use Rattle.spec_parse.specs.Rows.{find_row, attribute_row, row_at_front, row_reader, read_by, statement}
+use Rattle.spec_parse.specs.steps.Rows.{find_row, attribute_row, row_at_front, row_reader, read_by, statement}
 use Rattle.spec_parse.proofs.FirstWords.{alone_leads, more_after, by_row}
 use Rattle.spec_parse.proofs.Regroup.{drop_none}
 use Rattle.spec_parse.proofs.UnitLaws as units
@@ -31,12 +31,14 @@ use Rattle.spec_parse.proofs.FunctionLaws as functions
 use Rattle.spec_parse.proofs.ImplicitLaws as implicits
 use Rattle.spec_parse.proofs.RowLaws as rows
 use Rattle.spec_parse.proofs.GroupLaws as groups
+use Rattle.spec_parse.proofs.DataLaws as datas
 use Rattle.spec_parse.proofs.DeclareLaws as declares
 use Rattle.spec_parse.proofs.Wholes.{Sound}
 
 -- ---- what is read is written so
 
 sound_row : (which : Row) → Sound (row_reader which)
+sound_row row.BlockData = units.sound_block_data
 sound_row row.Program = units.sound_program
 sound_row row.Module = units.sound_module
 sound_row row.Subroutine = units.sound_subroutine
@@ -48,6 +50,7 @@ sound_row row.Interface = units.sound_interface
 sound_row row.Typed = functions.sound_typed expression_laws
 sound_row row.Dimension = rows.dimension_sound expression_laws
 sound_row row.Parameter = rows.parameter_sound expression_laws
+sound_row row.Data = datas.data_sound expression_laws
 sound_row row.Save = rows.save_sound
 sound_row row.Access = rows.access_sound
 sound_row row.External = rows.external_sound
@@ -92,6 +95,8 @@ contains_row = refl
 
 pub statement_complete : (layer : FormLayer) (at : ℕ) (tokens : List Token) → unit_form_at layer at tokens → statement (input at tokens) ≡ Some (roll-Form layer, input (at + length tokens) [])
 unfolding find_row attribute_row roll-Form denote.Hole.Carrier.roll
+statement_complete (Form-F.BlockData joined n) at tokens says =
+    by_row row.BlockData at tokens (form.BlockData joined n) (units.block_data_leads joined (maybe name n) at tokens says) (units.complete_block_data joined n at tokens says)
 statement_complete (Form-F.Program n) at tokens says = by_row row.Program at tokens (form.Program n) (led (codes "program") row.Program refl at tokens says.0 says.1 says.2 says.3) (units.complete_program n at tokens says)
 statement_complete (Form-F.ModuleProcedure all) at tokens says = by_row row.Module at tokens (form.ModuleProcedure all) (led (codes "module") row.Module refl at tokens says.0 says.1 says.2 says.3) (units.complete_procedure all at tokens says)
 statement_complete (Form-F.Module n) at tokens says = by_row row.Module at tokens (form.Module n) (led (codes "module") row.Module refl at tokens says.0 says.1 says.2 says.3) (units.complete_module n at tokens says)
@@ -114,6 +119,7 @@ statement_complete (Form-F.Dimension colons arrays) at tokens says =
     by_row row.Dimension at tokens (form.Dimension colons arrays) (led (codes "dimension") row.Dimension refl at tokens says.0 says.1 says.2 says.3) (rows.dimension_complete expression_laws colons arrays at tokens says)
 statement_complete (Form-F.Parameter constants) at tokens says =
     by_row row.Parameter at tokens (form.Parameter constants) (led (codes "parameter") row.Parameter refl at tokens says.0 says.1 says.2 says.3) (rows.parameter_complete expression_laws constants at tokens says)
+statement_complete (Form-F.Data all) at tokens says = by_row row.Data at tokens (form.Data all) (led (codes "data") row.Data refl at tokens says.0 says.1 says.2 says.3) (datas.data_complete expression_laws all at tokens says)
 statement_complete (Form-F.Save colons items) at tokens says = by_row row.Save at tokens (form.Save colons items) (led (codes "save") row.Save refl at tokens says.0 says.1 says.2 says.3) (rows.save_complete colons items at tokens says)
 statement_complete (Form-F.Access which colons all) at tokens says = by_row row.Access at tokens (form.Access which colons all) (access_leads which at tokens says.0 says.1 says.2 says.3) (rows.access_complete which colons all at tokens says)
 statement_complete (Form-F.External which all) at tokens says = by_row row.External at tokens (form.External which all) (external_leads which at tokens says.0 says.1 says.2 says.3) (rows.external_complete which all at tokens says)

@@ -25,12 +25,12 @@ use Rattle.expr_parse.proofs.Tokens.{only, none_of, apart_none, name_piece, afte
 use Rattle.expr_parse.proofs.Lists.{list}
 use Rattle.expr_parse.proofs.Commas.{tail}
 use Rattle.expr_parse.proofs.Operands.{ReadsExpressions}
-use Rattle.spec_parse.specs.Attributes as spec
-use Rattle.spec_parse.specs.Attributes.{array, constant, save_item}
-use Rattle.spec_parse.specs.Declaring as declaring
-use Rattle.spec_parse.specs.Declaring.{own_length, initial_value, entity}
-use Rattle.spec_parse.specs.Blocks as blocks
-use Rattle.spec_parse.specs.Blocks.{subscripts, designator, equivalence_set}
+use Rattle.spec_parse.specs.steps.Attributes as spec
+use Rattle.spec_parse.specs.steps.Attributes.{array, constant, save_item}
+use Rattle.spec_parse.specs.steps.Declaring as declaring
+use Rattle.spec_parse.specs.steps.Declaring.{own_length, initial_value, entity}
+use Rattle.spec_parse.specs.steps.Blocks as blocks
+use Rattle.spec_parse.specs.steps.Blocks.{subscripts, designator, equivalence_set}
 use Rattle.spec_parse.proofs.Choices.{choice, checked_piece}
 use Rattle.spec_parse.proofs.Seen.{seen, unseen, after_mark_first}
 use Rattle.spec_parse.proofs.TypePieces.{operand, chars_piece}

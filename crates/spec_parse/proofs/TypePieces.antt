@@ -22,9 +22,9 @@ use Rattle.expr_parse.proofs.AllKinds.{apart}
 use Rattle.expr_parse.proofs.Tokens.{only, none_of, mark_piece, word_piece, word_made, word_back, bare_made, bare_back, after_word, after_mark, before_mark, parens, is_same}
 use Rattle.expr_parse.proofs.Operands.{ReadsExpressions, expression_piece, goes_on}
 use Rattle.expr_parse.specs.Combinators.{◌<$>◌}
-use Rattle.spec_parse.specs.Choices.{picked}
-use Rattle.spec_parse.specs.Types as spec
-use Rattle.spec_parse.specs.Types.{length_value, char_length, len_selector, length_selector, other_type, type_spec, whole_of, sees_len}
+use Rattle.spec_parse.specs.steps.Choices.{picked}
+use Rattle.spec_parse.specs.steps.Types as spec
+use Rattle.spec_parse.specs.steps.Types.{length_value, char_length, len_selector, length_selector, other_type, type_spec, whole_of, sees_len}
 use Rattle.spec_parse.proofs.Choices.{choice, sound_picked, complete_picked, chosen_plain}
 use Rattle.spec_parse.proofs.Seen.{seen, unseen, unseen_or_empty, starts_word_at, starts_first, starts_word, shows, hides, after_mark_first}
 use Rattle.spec_parse.proofs.Lengths.{starts_no_times, whole_no_open, open_no_times, times_no_word, number_phrase, number_made, number_back, number_begun, shows_len, no_len, expression_no_len}

@@ -1,19 +1,38 @@
 -- The statements that begin program units, procedures and interface blocks are read as they are written.
-use Rattle.std.proofs.Common.{◌≡◌, refl, sym, ◌∙◌, ap, subst, ℕ, Bool, true, false, ◌&&◌, List, [], ◌∷◌, ◌++◌, Option, codes}
+use Rattle.std.proofs.Common.{◌≡◌, refl, sym, ◌∙◌, ap, subst, ℕ, Bool, true, false, ◌&&◌, List, [], ◌∷◌, ◌++◌, Option, Some, codes}
 use denote.Hole.Carrier
 use Rattle.ftn_tree.specs.declared.token.Token.{Token}
 use Rattle.ftn_tree.specs.declared.form.Form.{Form, out-Form}
 use Rattle.ftn_tree.specs.declared.form.Form.TheVariants as form
 use Rattle.ftn_tree.specs.declared.lexeme.Lexeme.TheVariants.{Word}
 use Rattle.ftn_tree.specs.Lexemes.{lexeme_of, is_word, same_lexeme}
-use Rattle.ftn_tree.specs.Phrases.{◌·◌, word, name, commas, maybe, in_parens, commas_or_none}
+use Rattle.ftn_tree.specs.Phrases.{Phrase, ◌·◌, word, name, commas, maybe, in_parens, commas_or_none}
 use Rattle.expr_parse.specs.Input.{Input, input}
 use Rattle.expr_parse.proofs.Tokens.{is_same}
-use Rattle.spec_parse.specs.Names.{names, dummies}
-use Rattle.spec_parse.specs.Units.{program, module_unit, module_procedure, names_procedures, module_row, subroutine, subroutine_parts, contains, interface}
-use Rattle.spec_parse.proofs.Regroup.{led_by}
+use Rattle.ftn_tree.specs.UnitForms as form_of
+use Rattle.spec_parse.specs.steps.Names.{names, dummies}
+use Rattle.spec_parse.specs.declared.rows.Row.TheVariants as row
+use Rattle.spec_parse.specs.steps.Rows.{find_row, row_at_front}
+use Rattle.spec_parse.specs.steps.Units.{block_data, block_data_of, program, module_unit, module_procedure, names_procedures, module_row, subroutine, subroutine_parts, contains, interface}
+use Rattle.spec_parse.proofs.Regroup.{to_right, led_by}
+use Rattle.spec_parse.proofs.FirstWords.{phrase_leads}
 use Rattle.spec_parse.proofs.UnitPieces as parts
 use Rattle.spec_parse.proofs.Wholes.{Sound, GivesForm, row_sound, row_complete, choose_one, choose_other, chosen_sound}
+
+-- ---- BLOCK DATA
+
+pub sound_block_data : Sound block_data
+unfolding block_data out-Form denote.Hole.Carrier.out
+sound_block_data = row_sound parts.block_data_parts block_data_of (λ both at tokens says. says)
+
+pub complete_block_data : (joined : Bool) (n : Option ℕ) (at : ℕ) (tokens : List Token) → (form_of.block_data joined · maybe name n) at tokens → GivesForm block_data at tokens (form.BlockData joined n)
+unfolding block_data
+complete_block_data joined n at tokens says = row_complete parts.block_data_parts block_data_of (joined, n) at tokens says
+
+pub block_data_leads : (joined : Bool) (rest : Phrase) (at : ℕ) (tokens : List Token) → (form_of.block_data joined · rest) at tokens → row_at_front tokens ≡ Some row.BlockData
+unfolding find_row
+block_data_leads true rest at tokens says = phrase_leads (codes "blockdata") rest at tokens says
+block_data_leads false rest at tokens says = phrase_leads (codes "block") (word (codes "data") · rest) at tokens (to_right (word (codes "block")) (word (codes "data")) rest at tokens says)
 
 -- ---- PROGRAM
 

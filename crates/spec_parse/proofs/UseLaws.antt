@@ -13,7 +13,7 @@ use Rattle.ftn_tree.specs.Phrases.{◌·◌, word, mark, name, after_commas, com
 use Rattle.ftn_tree.specs.UnitForms as written
 use Rattle.expr_parse.specs.Input.{Input, input}
 use Rattle.expr_parse.proofs.Tokens.{is_same}
-use Rattle.spec_parse.specs.Uses.{rename, only_item, renames, use_all, only_items, items_if_any, use_only, names_items, use_row}
+use Rattle.spec_parse.specs.steps.Uses.{rename, only_item, renames, use_all, only_items, items_if_any, use_only, names_items, use_row}
 use Rattle.spec_parse.proofs.Regroup.{led_by}
 use Rattle.spec_parse.proofs.UsePieces as parts
 use Rattle.spec_parse.proofs.Wholes.{Sound, GivesForm, row_sound, row_complete, choose_one, choose_other, chosen_sound}

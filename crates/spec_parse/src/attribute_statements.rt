@@ -2,7 +2,7 @@
 
 ghost use Rattle.std.specs.Prelude.{◌≡◌};
 ghost use Rattle.expr_parse.specs.Input.{Gives};
-ghost use Rattle.spec_parse.specs.Attributes as spec;
+ghost use Rattle.spec_parse.specs.steps.Attributes as spec;
 
 use crate::attributes::{access_word, paren_mode, procedure_word};
 use crate::bounds::bounds;
@@ -23,11 +23,11 @@ impl Item for u32 {
 }
 
 impl Item for ArrayDecl {
-    ghost use Rattle.spec_parse.specs.Attributes as spec;
+    ghost use Rattle.spec_parse.specs.steps.Attributes as spec;
 
     ghost reader = { spec.array };
 
-    #[tactic(auto, unfolding(crate::specs::Attributes::array))]
+    #[tactic(auto, unfolding(crate::specs::steps::Attributes::array))]
     fn read(alloc: Global, cursor: &mut Cursor<'_>) -> Result<ArrayDecl, Misfit> {
         let name = cursor.name()?;
         let bounds = bounds(alloc, cursor)?;
@@ -36,11 +36,11 @@ impl Item for ArrayDecl {
 }
 
 impl Item for NamedConstant {
-    ghost use Rattle.spec_parse.specs.Attributes as spec;
+    ghost use Rattle.spec_parse.specs.steps.Attributes as spec;
 
     ghost reader = { spec.constant };
 
-    #[tactic(auto, unfolding(crate::specs::Attributes::constant))]
+    #[tactic(auto, unfolding(crate::specs::steps::Attributes::constant))]
     fn read(alloc: Global, cursor: &mut Cursor<'_>) -> Result<NamedConstant, Misfit> {
         let name = cursor.name()?;
         cursor.expect(Lexeme::Equals)?;
@@ -50,11 +50,11 @@ impl Item for NamedConstant {
 }
 
 impl Item for SaveItem {
-    ghost use Rattle.spec_parse.specs.Attributes as spec;
+    ghost use Rattle.spec_parse.specs.steps.Attributes as spec;
 
     ghost reader = { spec.save_item };
 
-    #[tactic(auto, unfolding(crate::specs::Attributes::save_item))]
+    #[tactic(auto, unfolding(crate::specs::steps::Attributes::save_item))]
     fn read(_alloc: Global, cursor: &mut Cursor<'_>) -> Result<SaveItem, Misfit> {
         if !cursor.sees(Lexeme::Divide) {
             return Ok(SaveItem::Variable(cursor.name()?));
@@ -67,7 +67,7 @@ impl Item for SaveItem {
 }
 
 /// Reads DIMENSION (5.2.5).
-#[tactic(auto, unfolding(crate::specs::Attributes::dimension))]
+#[tactic(auto, unfolding(crate::specs::steps::Attributes::dimension))]
 pub fn dimension(alloc: Global, cursor: &mut Cursor<'_>) -> Result<Form, Misfit>
     ensures { Gives (spec.dimension cursor.old) result cursor.new }
 {
@@ -77,7 +77,7 @@ pub fn dimension(alloc: Global, cursor: &mut Cursor<'_>) -> Result<Form, Misfit>
 }
 
 /// Reads PARAMETER (5.2.10).
-#[tactic(auto, unfolding(crate::specs::Attributes::parameter))]
+#[tactic(auto, unfolding(crate::specs::steps::Attributes::parameter))]
 pub fn parameter(alloc: Global, cursor: &mut Cursor<'_>) -> Result<Form, Misfit>
     ensures { Gives (spec.parameter cursor.old) result cursor.new }
 {
@@ -89,7 +89,7 @@ pub fn parameter(alloc: Global, cursor: &mut Cursor<'_>) -> Result<Form, Misfit>
 }
 
 /// Reads SAVE (5.2.4).
-#[tactic(auto, unfolding(crate::specs::Attributes::save))]
+#[tactic(auto, unfolding(crate::specs::steps::Attributes::save))]
 pub fn save(alloc: Global, cursor: &mut Cursor<'_>) -> Result<Form, Misfit>
     ensures { Gives (spec.save cursor.old) result cursor.new }
 {
@@ -99,7 +99,7 @@ pub fn save(alloc: Global, cursor: &mut Cursor<'_>) -> Result<Form, Misfit>
 }
 
 /// Reads PUBLIC or PRIVATE (5.2.3).
-#[tactic(auto, unfolding(crate::specs::Attributes::access))]
+#[tactic(auto, unfolding(crate::specs::steps::Attributes::access))]
 pub fn access(alloc: Global, cursor: &mut Cursor<'_>) -> Result<Form, Misfit>
     ensures { Gives (spec.access cursor.old) result cursor.new }
 {
@@ -113,7 +113,7 @@ pub fn access(alloc: Global, cursor: &mut Cursor<'_>) -> Result<Form, Misfit>
 }
 
 /// Reads EXTERNAL or INTRINSIC (12.3.2.2, 12.3.2.3).
-#[tactic(auto, unfolding(crate::specs::Attributes::external))]
+#[tactic(auto, unfolding(crate::specs::steps::Attributes::external))]
 pub fn external(alloc: Global, cursor: &mut Cursor<'_>) -> Result<Form, Misfit>
     ensures { Gives (spec.external cursor.old) result cursor.new }
 {
@@ -123,7 +123,7 @@ pub fn external(alloc: Global, cursor: &mut Cursor<'_>) -> Result<Form, Misfit>
 }
 
 /// Reads INTENT (5.2.1).
-#[tactic(auto, unfolding(crate::specs::Attributes::intent))]
+#[tactic(auto, unfolding(crate::specs::steps::Attributes::intent))]
 pub fn intent(alloc: Global, cursor: &mut Cursor<'_>) -> Result<Form, Misfit>
     ensures { Gives (spec.intent cursor.old) result cursor.new }
 {

@@ -1,9 +1,9 @@
 //! Attributes (Fortran 90, 5.1.2).
 
 ghost use Rattle.std.specs.Prelude.{◌≡◌};
-ghost use Rattle.spec_parse.specs.Choices as lists;
+ghost use Rattle.spec_parse.specs.steps.Choices as lists;
 ghost use Rattle.expr_parse.specs.Input.{Gives};
-ghost use Rattle.spec_parse.specs.Attributes as spec;
+ghost use Rattle.spec_parse.specs.steps.Attributes as spec;
 
 use crate::bounds::bounds;
 use crate::list::Item;
@@ -12,7 +12,7 @@ use ftn_tree::{AccessWord, Attribute, AttributeKind, IntentMode, Lexeme, Procedu
 use std::alloc::Global;
 
 /// Reads PUBLIC or PRIVATE.
-#[tactic(auto, unfolding(crate::specs::Attributes::access_word))]
+#[tactic(auto, unfolding(crate::specs::steps::Attributes::access_word))]
 pub fn access_word(cursor: &mut Cursor<'_>) -> Result<AccessWord, Misfit>
     ensures { Gives (spec.access_word cursor.old) result cursor.new }
 {
@@ -25,7 +25,7 @@ pub fn access_word(cursor: &mut Cursor<'_>) -> Result<AccessWord, Misfit>
 }
 
 /// Reads EXTERNAL or INTRINSIC.
-#[tactic(auto, unfolding(crate::specs::Attributes::procedure_word))]
+#[tactic(auto, unfolding(crate::specs::steps::Attributes::procedure_word))]
 pub fn procedure_word(cursor: &mut Cursor<'_>) -> Result<ProcedureWord, Misfit>
     ensures { Gives (spec.procedure_word cursor.old) result cursor.new }
 {
@@ -37,7 +37,7 @@ pub fn procedure_word(cursor: &mut Cursor<'_>) -> Result<ProcedureWord, Misfit>
     Ok(ProcedureWord::Intrinsic)
 }
 
-#[tactic(auto, unfolding(crate::specs::Attributes::in_or_out))]
+#[tactic(auto, unfolding(crate::specs::steps::Attributes::in_or_out))]
 fn in_or_out(cursor: &mut Cursor<'_>) -> Result<IntentMode, Misfit>
     ensures { Gives (spec.in_or_out cursor.old) result cursor.new }
 {
@@ -53,7 +53,7 @@ fn in_or_out(cursor: &mut Cursor<'_>) -> Result<IntentMode, Misfit>
     }
 }
 
-#[tactic(auto, unfolding(crate::specs::Attributes::intent_mode))]
+#[tactic(auto, unfolding(crate::specs::steps::Attributes::intent_mode))]
 fn intent_mode(cursor: &mut Cursor<'_>) -> Result<IntentMode, Misfit>
     ensures { Gives (spec.intent_mode cursor.old) result cursor.new }
 {
@@ -86,7 +86,7 @@ fn sees_procedure(cursor: &Cursor<'_>) -> bool
     cursor.sees_word(b"external") || cursor.sees_word(b"intrinsic")
 }
 
-#[tactic(auto, unfolding(crate::specs::Attributes::plain_attribute))]
+#[tactic(auto, unfolding(crate::specs::steps::Attributes::plain_attribute))]
 fn plain_attribute(cursor: &mut Cursor<'_>) -> Result<AttributeKind, Misfit>
     ensures { Gives (spec.plain_attribute cursor.old) result cursor.new }
 {
@@ -98,7 +98,7 @@ fn plain_attribute(cursor: &mut Cursor<'_>) -> Result<AttributeKind, Misfit>
     Ok(AttributeKind::Save)
 }
 
-#[tactic(auto, unfolding(crate::specs::Attributes::word_attribute))]
+#[tactic(auto, unfolding(crate::specs::steps::Attributes::word_attribute))]
 fn word_attribute(cursor: &mut Cursor<'_>) -> Result<AttributeKind, Misfit>
     ensures { Gives (spec.word_attribute cursor.old) result cursor.new }
 {
@@ -111,7 +111,7 @@ fn word_attribute(cursor: &mut Cursor<'_>) -> Result<AttributeKind, Misfit>
     plain_attribute(cursor)
 }
 
-#[tactic(auto, unfolding(crate::specs::Attributes::attribute_kind))]
+#[tactic(auto, unfolding(crate::specs::steps::Attributes::attribute_kind))]
 fn attribute_kind(alloc: Global, cursor: &mut Cursor<'_>) -> Result<AttributeKind, Misfit>
     ensures { Gives (spec.attribute_kind cursor.old) result cursor.new }
 {
@@ -127,11 +127,11 @@ fn attribute_kind(alloc: Global, cursor: &mut Cursor<'_>) -> Result<AttributeKin
 }
 
 impl Item for Attribute {
-    ghost use Rattle.spec_parse.specs.Attributes as spec;
+    ghost use Rattle.spec_parse.specs.steps.Attributes as spec;
 
     ghost reader = { spec.attribute };
 
-    #[tactic(auto, unfolding(crate::specs::Attributes::attribute))]
+    #[tactic(auto, unfolding(crate::specs::steps::Attributes::attribute))]
     fn read(alloc: Global, cursor: &mut Cursor<'_>) -> Result<Attribute, Misfit> {
         let token = cursor.at();
         let kind = attribute_kind(alloc, cursor)?;

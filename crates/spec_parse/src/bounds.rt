@@ -3,7 +3,7 @@
 ghost use Rattle.std.specs.Prelude.{◌≡◌};
 ghost use Rattle.ftn_tree.specs.SpecificationForms as form;
 ghost use Rattle.expr_parse.specs.Input.{Gives};
-ghost use Rattle.spec_parse.specs.Bounds as spec;
+ghost use Rattle.spec_parse.specs.steps.Bounds as spec;
 
 use crate::list::{Item, separated};
 use expr_parse::{Cursor, Misfit, read_expression};
@@ -11,7 +11,7 @@ use ftn_tree::{BoundPair, Expr, Lexeme};
 use sqlite_items::Items;
 use std::alloc::Global;
 
-#[tactic(auto, unfolding(crate::specs::Bounds::upper_bound))]
+#[tactic(auto, unfolding(crate::specs::steps::Bounds::upper_bound))]
 fn upper_bound(alloc: Global, cursor: &mut Cursor<'_>) -> Result<Option<Expr>, Misfit>
     ensures { Gives (spec.upper_bound cursor.old) result cursor.new }
 {
@@ -37,7 +37,7 @@ fn pair_of(first: Expr, rest: Option<Option<Expr>>) -> BoundPair
     }
 }
 
-#[tactic(auto, unfolding(crate::specs::Bounds::rest_of_bound))]
+#[tactic(auto, unfolding(crate::specs::steps::Bounds::rest_of_bound))]
 fn rest_of_bound(alloc: Global, cursor: &mut Cursor<'_>) -> Result<Option<Option<Expr>>, Misfit>
     ensures { Gives (spec.rest_of_bound cursor.old) result cursor.new }
 {
@@ -49,11 +49,11 @@ fn rest_of_bound(alloc: Global, cursor: &mut Cursor<'_>) -> Result<Option<Option
 }
 
 impl Item for BoundPair {
-    ghost use Rattle.spec_parse.specs.Bounds as spec;
+    ghost use Rattle.spec_parse.specs.steps.Bounds as spec;
 
     ghost reader = { spec.bound };
 
-    #[tactic(auto, unfolding(crate::specs::Bounds::bound))]
+    #[tactic(auto, unfolding(crate::specs::steps::Bounds::bound))]
     fn read(alloc: Global, cursor: &mut Cursor<'_>) -> Result<BoundPair, Misfit> {
         if cursor.sees(Lexeme::Times) {
             cursor.expect(Lexeme::Times)?;
@@ -85,7 +85,7 @@ fn are_dimensions(pairs: &[BoundPair]) -> bool
 }
 
 /// Reads bounds in their parentheses (5.1.2.4).
-#[tactic(auto, unfolding(crate::specs::Bounds::bounds))]
+#[tactic(auto, unfolding(crate::specs::steps::Bounds::bounds))]
 pub fn bounds(alloc: Global, cursor: &mut Cursor<'_>) -> Result<Items<BoundPair>, Misfit>
     ensures { Gives (spec.bounds cursor.old) result cursor.new }
 {

@@ -2,7 +2,7 @@
 
 ghost use Rattle.std.specs.Prelude.{◌≡◌};
 ghost use Rattle.expr_parse.specs.Input.{Gives};
-ghost use Rattle.spec_parse.specs.Blocks as spec;
+ghost use Rattle.spec_parse.specs.steps.Blocks as spec;
 
 use crate::bounds::maybe_bounds;
 use crate::list::{Item, separated};
@@ -17,7 +17,7 @@ fn is_slash(next: Option<Lexeme>) -> bool
     matches!(next, Some(Lexeme::Divide | Lexeme::Concat))
 }
 
-#[tactic(auto, unfolding(crate::specs::Blocks::rest_of_block))]
+#[tactic(auto, unfolding(crate::specs::steps::Blocks::rest_of_block))]
 fn rest_of_block(cursor: &mut Cursor<'_>) -> Result<Option<u32>, Misfit>
     ensures { Gives (spec.rest_of_block cursor.old) result cursor.new }
 {
@@ -42,7 +42,7 @@ fn block_of(slash: u32, name: Option<u32>) -> BlockName
     }
 }
 
-#[tactic(auto, unfolding(crate::specs::Blocks::block))]
+#[tactic(auto, unfolding(crate::specs::steps::Blocks::block))]
 fn block(cursor: &mut Cursor<'_>) -> Result<BlockName, Misfit>
     ensures { Gives (spec.block cursor.old) result cursor.new }
 {
@@ -58,7 +58,7 @@ fn block(cursor: &mut Cursor<'_>) -> Result<BlockName, Misfit>
     Ok(block_of(slash, name))
 }
 
-#[tactic(auto, unfolding(crate::specs::Blocks::first_block))]
+#[tactic(auto, unfolding(crate::specs::steps::Blocks::first_block))]
 fn first_block(cursor: &mut Cursor<'_>) -> Result<BlockName, Misfit>
     ensures { Gives (spec.first_block cursor.old) result cursor.new }
 {
@@ -69,7 +69,7 @@ fn first_block(cursor: &mut Cursor<'_>) -> Result<BlockName, Misfit>
     }
 }
 
-#[tactic(auto, unfolding(crate::specs::Blocks::member))]
+#[tactic(auto, unfolding(crate::specs::steps::Blocks::member))]
 fn member(alloc: Global, cursor: &mut Cursor<'_>) -> Result<CommonMember, Misfit>
     ensures { Gives (spec.member cursor.old) result cursor.new }
 {
@@ -98,7 +98,7 @@ fn members(alloc: Global, cursor: &mut Cursor<'_>) -> Result<Items<CommonMember>
     Err(Misfit::NoFit)
 }
 
-#[tactic(auto, unfolding(crate::specs::Blocks::first_group))]
+#[tactic(auto, unfolding(crate::specs::steps::Blocks::first_group))]
 fn first_group(alloc: Global, cursor: &mut Cursor<'_>) -> Result<CommonGroup, Misfit>
     ensures { Gives (spec.first_group cursor.old) result cursor.new }
 {
@@ -111,7 +111,7 @@ fn first_group(alloc: Global, cursor: &mut Cursor<'_>) -> Result<CommonGroup, Mi
     })
 }
 
-#[tactic(auto, unfolding(crate::specs::Blocks::later_group))]
+#[tactic(auto, unfolding(crate::specs::steps::Blocks::later_group))]
 fn later_group(alloc: Global, cursor: &mut Cursor<'_>) -> Result<CommonGroup, Misfit>
     ensures { Gives (spec.later_group cursor.old) result cursor.new }
 {
@@ -144,7 +144,7 @@ fn groups_from(
 }
 
 /// Reads COMMON (5.5.2).
-#[tactic(auto, unfolding(crate::specs::Blocks::common))]
+#[tactic(auto, unfolding(crate::specs::steps::Blocks::common))]
 pub fn common(alloc: Global, cursor: &mut Cursor<'_>) -> Result<Form, Misfit>
     ensures { Gives (spec.common cursor.old) result cursor.new }
 {
@@ -164,7 +164,7 @@ impl Item for Expr {
     }
 }
 
-#[tactic(auto, unfolding(crate::specs::Blocks::subscripts))]
+#[tactic(auto, unfolding(crate::specs::steps::Blocks::subscripts))]
 fn subscripts(alloc: Global, cursor: &mut Cursor<'_>) -> Result<Option<Items<Expr>>, Misfit>
     ensures { Gives (spec.subscripts cursor.old) result cursor.new }
 {
@@ -177,25 +177,32 @@ fn subscripts(alloc: Global, cursor: &mut Cursor<'_>) -> Result<Option<Items<Exp
     Ok(Some(found))
 }
 
+/// Reads a name with its subscripts in parentheses, if a parenthesis follows it.
+#[tactic(auto, unfolding(crate::specs::steps::Blocks::designator))]
+pub fn designator(alloc: Global, cursor: &mut Cursor<'_>) -> Result<Designator, Misfit>
+    ensures { Gives (spec.designator cursor.old) result cursor.new }
+{
+    let name = cursor.name()?;
+    let subscripts = subscripts(alloc, cursor)?;
+    Ok(Designator { name, subscripts })
+}
+
 impl Item for Designator {
-    ghost use Rattle.spec_parse.specs.Blocks as spec;
+    ghost use Rattle.spec_parse.specs.steps.Blocks as spec;
 
     ghost reader = { spec.designator };
 
-    #[tactic(auto, unfolding(crate::specs::Blocks::designator))]
     fn read(alloc: Global, cursor: &mut Cursor<'_>) -> Result<Designator, Misfit> {
-        let name = cursor.name()?;
-        let subscripts = subscripts(alloc, cursor)?;
-        Ok(Designator { name, subscripts })
+        designator(alloc, cursor)
     }
 }
 
 impl Item for Items<Designator> {
-    ghost use Rattle.spec_parse.specs.Blocks as spec;
+    ghost use Rattle.spec_parse.specs.steps.Blocks as spec;
 
     ghost reader = { spec.equivalence_set };
 
-    #[tactic(auto, unfolding(crate::specs::Blocks::equivalence_set))]
+    #[tactic(auto, unfolding(crate::specs::steps::Blocks::equivalence_set))]
     fn read(alloc: Global, cursor: &mut Cursor<'_>) -> Result<Items<Designator>, Misfit> {
         cursor.expect(Lexeme::Open)?;
         let found = separated::<Designator>(alloc, cursor)?;
@@ -208,7 +215,7 @@ impl Item for Items<Designator> {
 }
 
 /// Reads EQUIVALENCE (5.5.1).
-#[tactic(auto, unfolding(crate::specs::Blocks::equivalence))]
+#[tactic(auto, unfolding(crate::specs::steps::Blocks::equivalence))]
 pub fn equivalence(alloc: Global, cursor: &mut Cursor<'_>) -> Result<Form, Misfit>
     ensures { Gives (spec.equivalence cursor.old) result cursor.new }
 {

@@ -3,7 +3,7 @@
 ghost use Rattle.std.specs.Prelude.{◌≡◌};
 ghost use Rattle.ftn_tree.specs.SpecificationForms as form;
 ghost use Rattle.expr_parse.specs.Input.{Gives};
-ghost use Rattle.spec_parse.specs.Declaring as spec;
+ghost use Rattle.spec_parse.specs.steps.Declaring as spec;
 
 use crate::bounds::maybe_bounds;
 use crate::list::{Item, after_colons, each_after_comma};
@@ -12,7 +12,7 @@ use expr_parse::{Cursor, Misfit, read_expression};
 use ftn_tree::{Attribute, CharLength, EntityDecl, Expr, Form, Lexeme, TypeSpec};
 use std::alloc::Global;
 
-#[tactic(auto, unfolding(crate::specs::Declaring::own_length))]
+#[tactic(auto, unfolding(crate::specs::steps::Declaring::own_length))]
 fn own_length(alloc: Global, cursor: &mut Cursor<'_>) -> Result<Option<CharLength>, Misfit>
     ensures { Gives (spec.own_length cursor.old) result cursor.new }
 {
@@ -23,7 +23,7 @@ fn own_length(alloc: Global, cursor: &mut Cursor<'_>) -> Result<Option<CharLengt
     Ok(Some(char_length(alloc, cursor)?))
 }
 
-#[tactic(auto, unfolding(crate::specs::Declaring::initial_value))]
+#[tactic(auto, unfolding(crate::specs::steps::Declaring::initial_value))]
 fn initial_value(alloc: Global, cursor: &mut Cursor<'_>) -> Result<Option<Expr>, Misfit>
     ensures { Gives (spec.initial_value cursor.old) result cursor.new }
 {
@@ -35,11 +35,11 @@ fn initial_value(alloc: Global, cursor: &mut Cursor<'_>) -> Result<Option<Expr>,
 }
 
 impl Item for EntityDecl {
-    ghost use Rattle.spec_parse.specs.Declaring as spec;
+    ghost use Rattle.spec_parse.specs.steps.Declaring as spec;
 
     ghost reader = { spec.entity };
 
-    #[tactic(auto, unfolding(crate::specs::Declaring::entity))]
+    #[tactic(auto, unfolding(crate::specs::steps::Declaring::entity))]
     fn read(alloc: Global, cursor: &mut Cursor<'_>) -> Result<EntityDecl, Misfit> {
         let name = cursor.name()?;
         let bounds = maybe_bounds(alloc, cursor)?;
@@ -86,7 +86,7 @@ fn is_declaration(
 }
 
 /// Reads what follows the type in a type declaration (5.1).
-#[tactic(auto, unfolding(crate::specs::Declaring::declare_from))]
+#[tactic(auto, unfolding(crate::specs::steps::Declaring::declare_from))]
 pub fn declare_from(alloc: Global, cursor: &mut Cursor<'_>, ty: TypeSpec) -> Result<Form, Misfit>
     ensures { Gives (spec.declare_from ty cursor.old) result cursor.new }
 {

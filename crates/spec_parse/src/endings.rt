@@ -1,9 +1,10 @@
-//! END statements (Fortran 90, 8.1, 11.1, 11.3, 12.3.2.1, 12.5.2).
+//! END statements (Fortran 90, 8.1, 11.1, 11.3, 11.4, 12.3.2.1, 12.5.2).
 
 ghost use Rattle.std.specs.Prelude.{◌≡◌};
 ghost use Rattle.ftn_tree.specs.Lexemes.{is_text};
+ghost use Rattle.ftn_tree.specs.UnitForms as form;
 ghost use Rattle.expr_parse.specs.Input.{Gives};
-ghost use Rattle.spec_parse.specs.Endings as spec;
+ghost use Rattle.spec_parse.specs.steps.Endings as spec;
 
 use expr_parse::{Cursor, Misfit};
 use ftn_tree::{EndWord, Ending, Form, Lexeme, Token, TokenKind};
@@ -14,7 +15,7 @@ fn is(word: &[u8], text: &[u8]) -> bool
     word == text
 }
 
-#[tactic(auto, unfolding(crate::specs::Endings::end_word))]
+#[tactic(auto, unfolding(crate::specs::steps::Endings::end_word))]
 fn find_end_word(text: &[u8]) -> Option<EndWord>
     ensures { result ≡ spec.end_word text.now }
 {
@@ -34,12 +35,16 @@ fn find_end_word(text: &[u8]) -> Option<EndWord>
         Some(EndWord::Do)
     } else if is(text, b"select") {
         Some(EndWord::Select)
+    } else if is(text, b"block") {
+        Some(EndWord::BlockData { joined: false })
+    } else if is(text, b"blockdata") {
+        Some(EndWord::BlockData { joined: true })
     } else {
         None
     }
 }
 
-#[tactic(auto, unfolding(crate::specs::Endings::joined_end_word))]
+#[tactic(auto, unfolding(crate::specs::steps::Endings::joined_end_word))]
 fn find_joined_end_word(text: &[u8]) -> Option<EndWord>
     ensures { result ≡ spec.joined_end_word text.now }
 {
@@ -59,6 +64,10 @@ fn find_joined_end_word(text: &[u8]) -> Option<EndWord>
         Some(EndWord::Do)
     } else if is(text, b"endselect") {
         Some(EndWord::Select)
+    } else if is(text, b"endblock") {
+        Some(EndWord::BlockData { joined: false })
+    } else if is(text, b"endblockdata") {
+        Some(EndWord::BlockData { joined: true })
     } else {
         None
     }
@@ -83,7 +92,7 @@ fn word_at_front(joined: bool, tokens: &[Token]) -> Option<EndWord>
     }
 }
 
-#[tactic(auto, unfolding(crate::specs::Endings::ending_word))]
+#[tactic(auto, unfolding(crate::specs::steps::Endings::ending_word))]
 fn read_ending_word(cursor: &mut Cursor<'_>, joined: bool) -> Result<EndWord, Misfit>
     ensures { Gives (spec.ending_word joined cursor.old) result cursor.new }
 {
@@ -94,11 +103,28 @@ fn read_ending_word(cursor: &mut Cursor<'_>, joined: bool) -> Result<EndWord, Mi
     Ok(word)
 }
 
-#[tactic(auto, unfolding(crate::specs::Endings::ending))]
+fn is_parted(word: EndWord) -> bool
+    ensures { result ≡ form.is_parted word }
+{
+    matches!(word, EndWord::BlockData { joined: false })
+}
+
+#[tactic(auto, unfolding(crate::specs::steps::Endings::ending_words))]
+fn read_ending_words(cursor: &mut Cursor<'_>, joined: bool) -> Result<EndWord, Misfit>
+    ensures { Gives (spec.ending_words joined cursor.old) result cursor.new }
+{
+    let word = read_ending_word(cursor, joined)?;
+    if is_parted(word) {
+        cursor.expect_word(b"data")?;
+    }
+    Ok(word)
+}
+
+#[tactic(auto, unfolding(crate::specs::steps::Endings::ending))]
 fn read_ending(cursor: &mut Cursor<'_>, joined: bool) -> Result<Ending, Misfit>
     ensures { Gives (spec.ending joined cursor.old) result cursor.new }
 {
-    let word = read_ending_word(cursor, joined)?;
+    let word = read_ending_words(cursor, joined)?;
     let name = if cursor.sees(Lexeme::Word) {
         Some(cursor.name()?)
     } else {
@@ -107,7 +133,7 @@ fn read_ending(cursor: &mut Cursor<'_>, joined: bool) -> Result<Ending, Misfit>
     Ok(Ending { word, joined, name })
 }
 
-#[tactic(auto, unfolding(crate::specs::Endings::parted_end))]
+#[tactic(auto, unfolding(crate::specs::steps::Endings::parted_end))]
 fn read_parted_end(cursor: &mut Cursor<'_>) -> Result<Option<Ending>, Misfit>
     ensures { Gives (spec.parted_end cursor.old) result cursor.new }
 {
@@ -120,7 +146,7 @@ fn read_parted_end(cursor: &mut Cursor<'_>) -> Result<Option<Ending>, Misfit>
 }
 
 /// `END`, alone or with the word of what it ends and a name; END and the word may be one word.
-#[tactic(auto, unfolding(crate::specs::Endings::end_row))]
+#[tactic(auto, unfolding(crate::specs::steps::Endings::end_row))]
 pub fn read_end(cursor: &mut Cursor<'_>) -> Result<Form, Misfit>
     ensures { Gives (spec.end_row cursor.old) result cursor.new }
 {

@@ -2,7 +2,7 @@
 
 ghost use Rattle.std.specs.Prelude.{◌≡◌};
 ghost use Rattle.expr_parse.specs.Input.{Gives};
-ghost use Rattle.spec_parse.specs.Implicits as spec;
+ghost use Rattle.spec_parse.specs.steps.Implicits as spec;
 
 use expr_parse::{Cursor, Misfit, constant, separated};
 use ftn_tree::{
@@ -12,8 +12,9 @@ use ftn_tree::{
 use sqlite_items::Items;
 use std::alloc::Global;
 
-#[tactic(auto, unfolding(crate::specs::Implicits::whole_number))]
-fn read_whole_number(alloc: Global, cursor: &mut Cursor<'_>) -> Result<(u32, i32), Misfit>
+/// Reads a whole number, and gives its token's number and what it stands for.
+#[tactic(auto, unfolding(crate::specs::steps::Implicits::whole_number))]
+pub fn read_whole_number(alloc: Global, cursor: &mut Cursor<'_>) -> Result<(u32, i32), Misfit>
     ensures { Gives (spec.whole_number cursor.old) result cursor.new }
 {
     match constant(alloc, cursor)? {
@@ -22,7 +23,7 @@ fn read_whole_number(alloc: Global, cursor: &mut Cursor<'_>) -> Result<(u32, i32
     }
 }
 
-#[tactic(auto, unfolding(crate::specs::Implicits::given_number))]
+#[tactic(auto, unfolding(crate::specs::steps::Implicits::given_number))]
 fn read_given_number(alloc: Global, cursor: &mut Cursor<'_>) -> Result<Expr, Misfit>
     ensures { Gives (spec.given_number cursor.old) result cursor.new }
 {
@@ -30,7 +31,7 @@ fn read_given_number(alloc: Global, cursor: &mut Cursor<'_>) -> Result<Expr, Mis
     Ok(Expr::Whole { token, value })
 }
 
-#[tactic(auto, unfolding(crate::specs::Implicits::star_length))]
+#[tactic(auto, unfolding(crate::specs::steps::Implicits::star_length))]
 fn read_star_length(alloc: Global, cursor: &mut Cursor<'_>) -> Result<LengthSelector, Misfit>
     ensures { Gives (spec.star_length cursor.old) result cursor.new }
 {
@@ -44,7 +45,7 @@ fn read_star_length(alloc: Global, cursor: &mut Cursor<'_>) -> Result<LengthSele
     Ok(LengthSelector::Star(CharLength::Whole { token, value }))
 }
 
-#[tactic(auto, unfolding(crate::specs::Implicits::len_given))]
+#[tactic(auto, unfolding(crate::specs::steps::Implicits::len_given))]
 fn read_len_given(alloc: Global, cursor: &mut Cursor<'_>) -> Result<(bool, Expr), Misfit>
     ensures { Gives (spec.len_given cursor.old) result cursor.new }
 {
@@ -56,7 +57,7 @@ fn read_len_given(alloc: Global, cursor: &mut Cursor<'_>) -> Result<(bool, Expr)
     Ok((true, read_given_number(alloc, cursor)?))
 }
 
-#[tactic(auto, unfolding(crate::specs::Implicits::paren_length))]
+#[tactic(auto, unfolding(crate::specs::steps::Implicits::paren_length))]
 fn read_paren_length(alloc: Global, cursor: &mut Cursor<'_>) -> Result<LengthSelector, Misfit>
     ensures { Gives (spec.paren_length cursor.old) result cursor.new }
 {
@@ -75,7 +76,7 @@ fn is_length(token: &Token) -> bool
     token.lexeme().is(Lexeme::Whole) || token.is_word(b"len")
 }
 
-#[tactic(auto, unfolding(crate::specs::Implicits::implicit_length))]
+#[tactic(auto, unfolding(crate::specs::steps::Implicits::implicit_length))]
 fn read_implicit_length(alloc: Global, cursor: &mut Cursor<'_>) -> Result<LengthSelector, Misfit>
     ensures { Gives (spec.implicit_length cursor.old) result cursor.new }
 {
@@ -86,7 +87,7 @@ fn read_implicit_length(alloc: Global, cursor: &mut Cursor<'_>) -> Result<Length
     read_star_length(alloc, cursor)
 }
 
-#[tactic(auto, unfolding(crate::specs::Implicits::implicit_character))]
+#[tactic(auto, unfolding(crate::specs::steps::Implicits::implicit_character))]
 fn read_implicit_character(alloc: Global, cursor: &mut Cursor<'_>) -> Result<ImplicitType, Misfit>
     ensures { Gives (spec.implicit_character cursor.old) result cursor.new }
 {
@@ -95,7 +96,7 @@ fn read_implicit_character(alloc: Global, cursor: &mut Cursor<'_>) -> Result<Imp
     Ok(ImplicitType::Known(TypeSpec::Character(Some(length))))
 }
 
-#[tactic(auto, unfolding(crate::specs::Implicits::implicit_type))]
+#[tactic(auto, unfolding(crate::specs::steps::Implicits::implicit_type))]
 fn read_implicit_type(alloc: Global, cursor: &mut Cursor<'_>) -> Result<ImplicitType, Misfit>
     ensures { Gives (spec.implicit_type cursor.old) result cursor.new }
 {
@@ -141,7 +142,7 @@ fn letter_at_front(tokens: &[Token]) -> Option<u8>
     }
 }
 
-#[tactic(auto, unfolding(crate::specs::Implicits::letter))]
+#[tactic(auto, unfolding(crate::specs::steps::Implicits::letter))]
 fn read_letter(cursor: &mut Cursor<'_>) -> Result<(u32, u8), Misfit>
     ensures { Gives (spec.letter cursor.old) result cursor.new }
 {
@@ -152,7 +153,7 @@ fn read_letter(cursor: &mut Cursor<'_>) -> Result<(u32, u8), Misfit>
     Ok((number, letter))
 }
 
-#[tactic(auto, unfolding(crate::specs::Implicits::letter_range))]
+#[tactic(auto, unfolding(crate::specs::steps::Implicits::letter_range))]
 fn read_letter_range(_alloc: Global, cursor: &mut Cursor<'_>) -> Result<LetterRange, Misfit>
     ensures { Gives (spec.letter_range cursor.old) result cursor.new }
 {
@@ -171,14 +172,14 @@ fn read_letter_range(_alloc: Global, cursor: &mut Cursor<'_>) -> Result<LetterRa
     })
 }
 
-#[tactic(auto, unfolding(crate::specs::Implicits::listed_ranges))]
+#[tactic(auto, unfolding(crate::specs::steps::Implicits::listed_ranges))]
 fn read_listed_ranges(alloc: Global, cursor: &mut Cursor<'_>) -> Result<Items<LetterRange>, Misfit>
     ensures { Gives (spec.listed_ranges cursor.old) result cursor.new }
 {
     separated(alloc, cursor, read_letter_range)
 }
 
-#[tactic(auto, unfolding(crate::specs::Implicits::ranges))]
+#[tactic(auto, unfolding(crate::specs::steps::Implicits::ranges))]
 fn read_ranges(alloc: Global, cursor: &mut Cursor<'_>) -> Result<Items<LetterRange>, Misfit>
     ensures { Gives (spec.ranges cursor.old) result cursor.new }
 {
@@ -188,7 +189,7 @@ fn read_ranges(alloc: Global, cursor: &mut Cursor<'_>) -> Result<Items<LetterRan
     Ok(ranges)
 }
 
-#[tactic(auto, unfolding(crate::specs::Implicits::plain_group))]
+#[tactic(auto, unfolding(crate::specs::steps::Implicits::plain_group))]
 fn read_plain_group(alloc: Global, cursor: &mut Cursor<'_>) -> Result<LetterGroup, Misfit>
     ensures { Gives (spec.plain_group cursor.old) result cursor.new }
 {
@@ -198,7 +199,7 @@ fn read_plain_group(alloc: Global, cursor: &mut Cursor<'_>) -> Result<LetterGrou
     Ok(LetterGroup { ty, ranges })
 }
 
-#[tactic(auto, unfolding(crate::specs::Implicits::typed_group))]
+#[tactic(auto, unfolding(crate::specs::steps::Implicits::typed_group))]
 fn read_typed_group(alloc: Global, cursor: &mut Cursor<'_>) -> Result<LetterGroup, Misfit>
     ensures { Gives (spec.typed_group cursor.old) result cursor.new }
 {
@@ -213,7 +214,7 @@ fn opens_letters(opening: &Token, next: &Token) -> bool
     opening.lexeme().is(Lexeme::Open) && !is_length(next)
 }
 
-#[tactic(auto, unfolding(crate::specs::Implicits::is_plain))]
+#[tactic(auto, unfolding(crate::specs::steps::Implicits::is_plain))]
 fn is_plain(tokens: &[Token]) -> bool
     ensures { result ≡ spec.is_plain tokens.now }
 {
@@ -223,7 +224,7 @@ fn is_plain(tokens: &[Token]) -> bool
     }
 }
 
-#[tactic(auto, unfolding(crate::specs::Implicits::letter_group))]
+#[tactic(auto, unfolding(crate::specs::steps::Implicits::letter_group))]
 fn read_letter_group(alloc: Global, cursor: &mut Cursor<'_>) -> Result<LetterGroup, Misfit>
     ensures { Gives (spec.letter_group cursor.old) result cursor.new }
 {
@@ -234,7 +235,7 @@ fn read_letter_group(alloc: Global, cursor: &mut Cursor<'_>) -> Result<LetterGro
     }
 }
 
-#[tactic(auto, unfolding(crate::specs::Implicits::groups))]
+#[tactic(auto, unfolding(crate::specs::steps::Implicits::groups))]
 fn read_groups(alloc: Global, cursor: &mut Cursor<'_>) -> Result<Items<LetterGroup>, Misfit>
     ensures { Gives (spec.groups cursor.old) result cursor.new }
 {
@@ -243,7 +244,7 @@ fn read_groups(alloc: Global, cursor: &mut Cursor<'_>) -> Result<Items<LetterGro
 
 /// `IMPLICIT NONE` or `IMPLICIT type ( letters ), ..`. The last group in parentheses is the letters: `CHARACTER (a-h)` has no
 /// length.
-#[tactic(auto, unfolding(crate::specs::Implicits::implicit, crate::specs::Implicits::groups_or_none))]
+#[tactic(auto, unfolding(crate::specs::steps::Implicits::implicit, crate::specs::steps::Implicits::groups_or_none))]
 pub fn read_implicit(alloc: Global, cursor: &mut Cursor<'_>) -> Result<Form, Misfit>
     ensures { Gives (spec.implicit cursor.old) result cursor.new }
 {

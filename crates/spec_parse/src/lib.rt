@@ -5,6 +5,7 @@ mod attribute_statements;
 mod attributes;
 mod bounds;
 mod common;
+mod data;
 mod declare;
 mod endings;
 mod implicits;

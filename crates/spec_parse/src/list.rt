@@ -2,7 +2,7 @@
 
 ghost use Rattle.expr_parse.specs.Input.{Gives};
 ghost use Rattle.expr_parse.specs.Combinators as spec;
-ghost use Rattle.spec_parse.specs.Lists as lists;
+ghost use Rattle.spec_parse.specs.steps.Lists as lists;
 
 use expr_parse::{Cursor, Misfit};
 use ftn_tree::Lexeme;

@@ -2,7 +2,7 @@
 
 ghost use Rattle.expr_parse.specs.Input.{Gives};
 ghost use Rattle.expr_parse.specs.Input as input;
-ghost use Rattle.spec_parse.specs.Names as spec;
+ghost use Rattle.spec_parse.specs.steps.Names as spec;
 
 use expr_parse::{Cursor, Misfit, separated};
 use ftn_tree::Lexeme;
@@ -16,7 +16,7 @@ fn read_name(_alloc: Global, cursor: &mut Cursor<'_>) -> Result<u32, Misfit>
 }
 
 /// Reads one name or more, with commas between them.
-#[tactic(auto, unfolding(crate::specs::Names::names))]
+#[tactic(auto, unfolding(crate::specs::steps::Names::names))]
 pub fn read_names(alloc: Global, cursor: &mut Cursor<'_>) -> Result<Items<u32>, Misfit>
     ensures { Gives (spec.names cursor.old) result cursor.new }
 {
@@ -24,7 +24,7 @@ pub fn read_names(alloc: Global, cursor: &mut Cursor<'_>) -> Result<Items<u32>, 
 }
 
 /// Reads the dummy arguments in their parentheses (Fortran 90, 12.5.2).
-#[tactic(auto, unfolding(crate::specs::Names::dummies, crate::specs::Names::names))]
+#[tactic(auto, unfolding(crate::specs::steps::Names::dummies, crate::specs::steps::Names::names))]
 pub fn read_dummies(alloc: Global, cursor: &mut Cursor<'_>) -> Result<Items<u32>, Misfit>
     ensures { Gives (spec.dummies cursor.old) result cursor.new }
 {

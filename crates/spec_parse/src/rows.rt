@@ -4,16 +4,18 @@ ghost use Rattle.std.specs.Prelude.{◌≡◌};
 ghost use Rattle.ftn_tree.specs.Lexemes.{is_text};
 ghost use Rattle.expr_parse.specs.Input.{Gives};
 ghost use Rattle.expr_parse.specs.Combinators.{to_the_end};
-ghost use Rattle.spec_parse.specs.Rows as spec;
+ghost use Rattle.spec_parse.specs.steps.Rows as spec;
 
 use crate::attribute_statements::{access, dimension, external, intent, parameter, save};
 use crate::common::{common, equivalence};
+use crate::data::data;
 use crate::declare::declare_from;
 use crate::endings::read_end;
 use crate::implicits::read_implicit;
 use crate::types::type_spec;
 use crate::units::{
-    read_contains, read_function, read_interface, read_module, read_program, read_subroutine,
+    read_block_data, read_contains, read_function, read_interface, read_module, read_program,
+    read_subroutine,
 };
 use crate::uses::read_use;
 use expr_parse::{Cursor, Misfit};
@@ -23,6 +25,8 @@ use std::alloc::Global;
 /// What a statement that begins with a certain word may be.
 #[derive(Clone, Copy)]
 pub enum Row {
+    /// BLOCK DATA.
+    BlockData,
     /// PROGRAM.
     Program,
     /// MODULE, and MODULE PROCEDURE.
@@ -45,6 +49,8 @@ pub enum Row {
     Dimension,
     /// PARAMETER.
     Parameter,
+    /// DATA.
+    Data,
     /// SAVE.
     Save,
     /// PUBLIC or PRIVATE.
@@ -73,7 +79,7 @@ fn is_type_word(text: &[u8]) -> bool
     is(text, b"integer") || is(text, b"logical") || is(text, b"character")
 }
 
-#[tactic(auto, unfolding(crate::specs::Rows::attribute_row))]
+#[tactic(auto, unfolding(crate::specs::steps::Rows::attribute_row))]
 fn find_attribute_row(text: &[u8]) -> Row
     ensures { result ≡ spec.attribute_row text.now }
 {
@@ -81,6 +87,8 @@ fn find_attribute_row(text: &[u8]) -> Row
         Row::Dimension
     } else if is(text, b"parameter") {
         Row::Parameter
+    } else if is(text, b"data") {
+        Row::Data
     } else if is(text, b"save") {
         Row::Save
     } else if is(text, b"public") || is(text, b"private") {
@@ -98,11 +106,13 @@ fn find_attribute_row(text: &[u8]) -> Row
     }
 }
 
-#[tactic(auto, unfolding(crate::specs::Rows::find_row))]
+#[tactic(auto, unfolding(crate::specs::steps::Rows::find_row))]
 fn find_row(text: &[u8]) -> Row
     ensures { result ≡ spec.find_row text.now }
 {
-    if is(text, b"program") {
+    if is(text, b"block") || is(text, b"blockdata") {
+        Row::BlockData
+    } else if is(text, b"program") {
         Row::Program
     } else if is(text, b"module") {
         Row::Module
@@ -143,7 +153,7 @@ fn row_at_front(tokens: &[Token]) -> Option<Row>
     }
 }
 
-#[tactic(auto, unfolding(crate::specs::Rows::begins_function))]
+#[tactic(auto, unfolding(crate::specs::steps::Rows::begins_function))]
 fn begins_function(tokens: &[Token]) -> bool
     ensures { result ≡ spec.begins_function tokens.now }
 {
@@ -153,7 +163,7 @@ fn begins_function(tokens: &[Token]) -> bool
     }
 }
 
-#[tactic(auto, unfolding(crate::specs::Rows::typed_row))]
+#[tactic(auto, unfolding(crate::specs::steps::Rows::typed_row))]
 fn read_typed(alloc: Global, cursor: &mut Cursor<'_>) -> Result<Form, Misfit>
     ensures { Gives (spec.typed_row cursor.old) result cursor.new }
 {
@@ -169,6 +179,7 @@ fn read_row(alloc: Global, cursor: &mut Cursor<'_>, row: Row) -> Result<Form, Mi
     ensures { Gives (spec.row_reader row cursor.old) result cursor.new }
 {
     match row {
+        Row::BlockData => read_block_data(cursor),
         Row::Program => read_program(cursor),
         Row::Module => read_module(alloc, cursor),
         Row::Subroutine => read_subroutine(alloc, cursor),
@@ -180,6 +191,7 @@ fn read_row(alloc: Global, cursor: &mut Cursor<'_>, row: Row) -> Result<Form, Mi
         Row::Typed => read_typed(alloc, cursor),
         Row::Dimension => dimension(alloc, cursor),
         Row::Parameter => parameter(alloc, cursor),
+        Row::Data => data(alloc, cursor),
         Row::Save => save(alloc, cursor),
         Row::Access => access(alloc, cursor),
         Row::External => external(alloc, cursor),
@@ -199,7 +211,7 @@ fn read_to_the_end(alloc: Global, cursor: &mut Cursor<'_>, row: Row) -> Result<F
 }
 
 /// Reads a statement that is all that is left, by its first word alone: whether it is an assignment is not asked.
-#[tactic(auto, unfolding(crate::specs::Rows::statement))]
+#[tactic(auto, unfolding(crate::specs::steps::Rows::statement))]
 pub fn read_statement(alloc: Global, cursor: &mut Cursor<'_>) -> Result<Form, Misfit>
     ensures { Gives (spec.statement cursor.old) result cursor.new }
 {

@@ -2,14 +2,14 @@
 
 ghost use Rattle.std.specs.Prelude.{◌≡◌};
 ghost use Rattle.expr_parse.specs.Input.{Gives};
-ghost use Rattle.spec_parse.specs.Types as spec;
+ghost use Rattle.spec_parse.specs.steps.Types as spec;
 
 use expr_parse::{Cursor, Misfit, read_expression};
 use ftn_tree::{CharLength, Expr, LengthSelector, LengthValue, Lexeme, TypeSpec};
 use std::alloc::Global;
 
 /// Reads a length, `*` or an expression (5.1.1.5).
-#[tactic(auto, unfolding(crate::specs::Types::length_value))]
+#[tactic(auto, unfolding(crate::specs::steps::Types::length_value))]
 fn length_value(alloc: Global, cursor: &mut Cursor<'_>) -> Result<LengthValue, Misfit>
     ensures { Gives (spec.length_value cursor.old) result cursor.new }
 {
@@ -21,7 +21,7 @@ fn length_value(alloc: Global, cursor: &mut Cursor<'_>) -> Result<LengthValue, M
 }
 
 /// Reads what stands after `*`: a whole number, or a length in parentheses (5.1.1.5).
-#[tactic(auto, unfolding(crate::specs::Types::char_length))]
+#[tactic(auto, unfolding(crate::specs::steps::Types::char_length))]
 pub fn char_length(alloc: Global, cursor: &mut Cursor<'_>) -> Result<CharLength, Misfit>
     ensures { Gives (spec.char_length cursor.old) result cursor.new }
 {
@@ -37,14 +37,14 @@ pub fn char_length(alloc: Global, cursor: &mut Cursor<'_>) -> Result<CharLength,
     }
 }
 
-#[tactic(auto, unfolding(crate::specs::Types::sees_len))]
+#[tactic(auto, unfolding(crate::specs::steps::Types::sees_len))]
 fn sees_len(cursor: &Cursor<'_>) -> bool
     ensures { result ≡ spec.sees_len cursor.now }
 {
     cursor.sees_word(b"len") && matches!(cursor.peek_second(), Some(Lexeme::Equals))
 }
 
-#[tactic(auto, unfolding(crate::specs::Types::len_selector))]
+#[tactic(auto, unfolding(crate::specs::steps::Types::len_selector))]
 fn len_selector(alloc: Global, cursor: &mut Cursor<'_>) -> Result<LengthSelector, Misfit>
     ensures { Gives (spec.len_selector cursor.old) result cursor.new }
 {
@@ -64,7 +64,7 @@ fn len_selector(alloc: Global, cursor: &mut Cursor<'_>) -> Result<LengthSelector
     })
 }
 
-#[tactic(auto, unfolding(crate::specs::Types::length_selector))]
+#[tactic(auto, unfolding(crate::specs::steps::Types::length_selector))]
 fn length_selector(alloc: Global, cursor: &mut Cursor<'_>) -> Result<Option<LengthSelector>, Misfit>
     ensures { Gives (spec.length_selector cursor.old) result cursor.new }
 {
@@ -81,7 +81,7 @@ fn length_selector(alloc: Global, cursor: &mut Cursor<'_>) -> Result<Option<Leng
     Ok(Some(selector))
 }
 
-#[tactic(auto, unfolding(crate::specs::Types::other_type))]
+#[tactic(auto, unfolding(crate::specs::steps::Types::other_type))]
 fn other_type(alloc: Global, cursor: &mut Cursor<'_>) -> Result<TypeSpec, Misfit>
     ensures { Gives (spec.other_type cursor.old) result cursor.new }
 {
@@ -94,7 +94,7 @@ fn other_type(alloc: Global, cursor: &mut Cursor<'_>) -> Result<TypeSpec, Misfit
 }
 
 /// Reads INTEGER, LOGICAL, or CHARACTER with the length that follows it (5.1.1). A `(` after CHARACTER begins a length.
-#[tactic(auto, unfolding(crate::specs::Types::type_spec))]
+#[tactic(auto, unfolding(crate::specs::steps::Types::type_spec))]
 pub fn type_spec(alloc: Global, cursor: &mut Cursor<'_>) -> Result<TypeSpec, Misfit>
     ensures { Gives (spec.type_spec cursor.old) result cursor.new }
 {

@@ -2,15 +2,42 @@
 
 ghost use Rattle.std.specs.Prelude.{◌≡◌};
 ghost use Rattle.expr_parse.specs.Input.{Gives};
-ghost use Rattle.spec_parse.specs.Units as spec;
+ghost use Rattle.spec_parse.specs.steps.Units as spec;
 
 use crate::names::{read_dummies, read_names};
 use expr_parse::{Cursor, Misfit};
 use ftn_tree::{Form, Lexeme, Token, TypeSpec};
 use std::alloc::Global;
 
+#[tactic(auto, unfolding(crate::specs::steps::Units::block_words))]
+fn read_block_words(cursor: &mut Cursor<'_>) -> Result<bool, Misfit>
+    ensures { Gives (spec.block_words cursor.old) result cursor.new }
+{
+    if cursor.sees_word(b"blockdata") {
+        cursor.expect_word(b"blockdata")?;
+        return Ok(true);
+    }
+    cursor.expect_word(b"block")?;
+    cursor.expect_word(b"data")?;
+    Ok(false)
+}
+
+/// `BLOCK DATA [name]` (11.4).
+#[tactic(auto, unfolding(crate::specs::steps::Units::block_data))]
+pub fn read_block_data(cursor: &mut Cursor<'_>) -> Result<Form, Misfit>
+    ensures { Gives (spec.block_data cursor.old) result cursor.new }
+{
+    let joined = read_block_words(cursor)?;
+    let name = if cursor.sees(Lexeme::Word) {
+        Some(cursor.name()?)
+    } else {
+        None
+    };
+    Ok(Form::BlockData { joined, name })
+}
+
 /// `PROGRAM name` (11.1).
-#[tactic(auto, unfolding(crate::specs::Units::program))]
+#[tactic(auto, unfolding(crate::specs::steps::Units::program))]
 pub fn read_program(cursor: &mut Cursor<'_>) -> Result<Form, Misfit>
     ensures { Gives (spec.program cursor.old) result cursor.new }
 {
@@ -19,7 +46,7 @@ pub fn read_program(cursor: &mut Cursor<'_>) -> Result<Form, Misfit>
     Ok(Form::Program { name })
 }
 
-#[tactic(auto, unfolding(crate::specs::Units::module_unit))]
+#[tactic(auto, unfolding(crate::specs::steps::Units::module_unit))]
 fn read_module_unit(cursor: &mut Cursor<'_>) -> Result<Form, Misfit>
     ensures { Gives (spec.module_unit cursor.old) result cursor.new }
 {
@@ -28,7 +55,7 @@ fn read_module_unit(cursor: &mut Cursor<'_>) -> Result<Form, Misfit>
     Ok(Form::Module { name })
 }
 
-#[tactic(auto, unfolding(crate::specs::Units::module_procedure))]
+#[tactic(auto, unfolding(crate::specs::steps::Units::module_procedure))]
 fn read_module_procedure(alloc: Global, cursor: &mut Cursor<'_>) -> Result<Form, Misfit>
     ensures { Gives (spec.module_procedure cursor.old) result cursor.new }
 {
@@ -38,7 +65,7 @@ fn read_module_procedure(alloc: Global, cursor: &mut Cursor<'_>) -> Result<Form,
     Ok(Form::ModuleProcedure { names })
 }
 
-#[tactic(auto, unfolding(crate::specs::Units::names_procedures))]
+#[tactic(auto, unfolding(crate::specs::steps::Units::names_procedures))]
 fn names_procedures(tokens: &[Token]) -> bool
     ensures { result ≡ spec.names_procedures tokens.now }
 {
@@ -49,7 +76,7 @@ fn names_procedures(tokens: &[Token]) -> bool
 }
 
 /// `MODULE name` or `MODULE PROCEDURE name, ..` (11.3, 12.3.2.1). A module may have the name `procedure`.
-#[tactic(auto, unfolding(crate::specs::Units::module_row))]
+#[tactic(auto, unfolding(crate::specs::steps::Units::module_row))]
 pub fn read_module(alloc: Global, cursor: &mut Cursor<'_>) -> Result<Form, Misfit>
     ensures { Gives (spec.module_row cursor.old) result cursor.new }
 {
@@ -61,7 +88,7 @@ pub fn read_module(alloc: Global, cursor: &mut Cursor<'_>) -> Result<Form, Misfi
 }
 
 /// `SUBROUTINE name [( [dummy, ..] )]` (12.5.2.3).
-#[tactic(auto, unfolding(crate::specs::Units::subroutine, crate::specs::Units::subroutine_parts))]
+#[tactic(auto, unfolding(crate::specs::steps::Units::subroutine, crate::specs::steps::Units::subroutine_parts))]
 pub fn read_subroutine(alloc: Global, cursor: &mut Cursor<'_>) -> Result<Form, Misfit>
     ensures { Gives (spec.subroutine cursor.old) result cursor.new }
 {
@@ -75,7 +102,7 @@ pub fn read_subroutine(alloc: Global, cursor: &mut Cursor<'_>) -> Result<Form, M
     Ok(Form::Subroutine { name, dummies })
 }
 
-#[tactic(auto, unfolding(crate::specs::Units::result_name))]
+#[tactic(auto, unfolding(crate::specs::steps::Units::result_name))]
 fn read_result_name(cursor: &mut Cursor<'_>) -> Result<u32, Misfit>
     ensures { Gives (spec.result_name cursor.old) result cursor.new }
 {
@@ -87,7 +114,7 @@ fn read_result_name(cursor: &mut Cursor<'_>) -> Result<u32, Misfit>
 }
 
 /// `FUNCTION name ( [dummy, ..] ) [RESULT ( name )]`, after the type if one is written (12.5.2.2).
-#[tactic(auto, unfolding(crate::specs::Units::function, crate::specs::Units::function_parts))]
+#[tactic(auto, unfolding(crate::specs::steps::Units::function, crate::specs::steps::Units::function_parts))]
 pub fn read_function(
     alloc: Global,
     cursor: &mut Cursor<'_>,
@@ -112,7 +139,7 @@ pub fn read_function(
 }
 
 /// `CONTAINS` (12.5.2.6).
-#[tactic(auto, unfolding(crate::specs::Units::contains))]
+#[tactic(auto, unfolding(crate::specs::steps::Units::contains))]
 pub fn read_contains(cursor: &mut Cursor<'_>) -> Result<Form, Misfit>
     ensures { Gives (spec.contains cursor.old) result cursor.new }
 {
@@ -121,7 +148,7 @@ pub fn read_contains(cursor: &mut Cursor<'_>) -> Result<Form, Misfit>
 }
 
 /// `INTERFACE [name]` (12.3.2.1).
-#[tactic(auto, unfolding(crate::specs::Units::interface))]
+#[tactic(auto, unfolding(crate::specs::steps::Units::interface))]
 pub fn read_interface(cursor: &mut Cursor<'_>) -> Result<Form, Misfit>
     ensures { Gives (spec.interface cursor.old) result cursor.new }
 {

@@ -2,14 +2,14 @@
 
 ghost use Rattle.std.specs.Prelude.{◌≡◌};
 ghost use Rattle.expr_parse.specs.Input.{Gives};
-ghost use Rattle.spec_parse.specs.Uses as spec;
+ghost use Rattle.spec_parse.specs.steps.Uses as spec;
 
 use expr_parse::{Cursor, Misfit, each_after_comma, separated};
 use ftn_tree::{Form, Lexeme, OnlyItem, Rename, Token};
 use sqlite_items::Items;
 use std::alloc::Global;
 
-#[tactic(auto, unfolding(crate::specs::Uses::rename))]
+#[tactic(auto, unfolding(crate::specs::steps::Uses::rename))]
 fn read_rename(_alloc: Global, cursor: &mut Cursor<'_>) -> Result<Rename, Misfit>
     ensures { Gives (spec.rename cursor.old) result cursor.new }
 {
@@ -19,7 +19,7 @@ fn read_rename(_alloc: Global, cursor: &mut Cursor<'_>) -> Result<Rename, Misfit
     Ok(Rename { local, source })
 }
 
-#[tactic(auto, unfolding(crate::specs::Uses::only_item))]
+#[tactic(auto, unfolding(crate::specs::steps::Uses::only_item))]
 fn read_only_item(_alloc: Global, cursor: &mut Cursor<'_>) -> Result<OnlyItem, Misfit>
     ensures { Gives (spec.only_item cursor.old) result cursor.new }
 {
@@ -38,14 +38,14 @@ fn read_only_item(_alloc: Global, cursor: &mut Cursor<'_>) -> Result<OnlyItem, M
     })
 }
 
-#[tactic(auto, unfolding(crate::specs::Uses::renames))]
+#[tactic(auto, unfolding(crate::specs::steps::Uses::renames))]
 fn read_renames(alloc: Global, cursor: &mut Cursor<'_>) -> Result<Items<Rename>, Misfit>
     ensures { Gives (spec.renames cursor.old) result cursor.new }
 {
     each_after_comma(alloc, cursor, read_rename)
 }
 
-#[tactic(auto, unfolding(crate::specs::Uses::use_all))]
+#[tactic(auto, unfolding(crate::specs::steps::Uses::use_all))]
 fn read_use_all(alloc: Global, cursor: &mut Cursor<'_>) -> Result<Form, Misfit>
     ensures { Gives (spec.use_all cursor.old) result cursor.new }
 {
@@ -55,14 +55,14 @@ fn read_use_all(alloc: Global, cursor: &mut Cursor<'_>) -> Result<Form, Misfit>
     Ok(Form::UseAll { module, renames })
 }
 
-#[tactic(auto, unfolding(crate::specs::Uses::only_items))]
+#[tactic(auto, unfolding(crate::specs::steps::Uses::only_items))]
 fn read_only_items(alloc: Global, cursor: &mut Cursor<'_>) -> Result<Items<OnlyItem>, Misfit>
     ensures { Gives (spec.only_items cursor.old) result cursor.new }
 {
     separated(alloc, cursor, read_only_item)
 }
 
-#[tactic(auto, unfolding(crate::specs::Uses::items_if_any))]
+#[tactic(auto, unfolding(crate::specs::steps::Uses::items_if_any))]
 fn read_items_if_any(alloc: Global, cursor: &mut Cursor<'_>) -> Result<Items<OnlyItem>, Misfit>
     ensures { Gives (spec.items_if_any cursor.old) result cursor.new }
 {
@@ -73,7 +73,7 @@ fn read_items_if_any(alloc: Global, cursor: &mut Cursor<'_>) -> Result<Items<Onl
     }
 }
 
-#[tactic(auto, unfolding(crate::specs::Uses::use_only))]
+#[tactic(auto, unfolding(crate::specs::steps::Uses::use_only))]
 fn read_use_only(alloc: Global, cursor: &mut Cursor<'_>) -> Result<Form, Misfit>
     ensures { Gives (spec.use_only cursor.old) result cursor.new }
 {
@@ -86,7 +86,7 @@ fn read_use_only(alloc: Global, cursor: &mut Cursor<'_>) -> Result<Form, Misfit>
     Ok(Form::UseOnly { module, items })
 }
 
-#[tactic(auto, unfolding(crate::specs::Uses::names_items))]
+#[tactic(auto, unfolding(crate::specs::steps::Uses::names_items))]
 fn names_items(tokens: &[Token]) -> bool
     ensures { result ≡ spec.names_items tokens.now }
 {
@@ -97,7 +97,7 @@ fn names_items(tokens: &[Token]) -> bool
 }
 
 /// `USE module [, local => source, ..]` or `USE module, ONLY : [item, ..]`. A local name may be `only`.
-#[tactic(auto, unfolding(crate::specs::Uses::use_row))]
+#[tactic(auto, unfolding(crate::specs::steps::Uses::use_row))]
 pub fn read_use(alloc: Global, cursor: &mut Cursor<'_>) -> Result<Form, Misfit>
     ensures { Gives (spec.use_row cursor.old) result cursor.new }
 {

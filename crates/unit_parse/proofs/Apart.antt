@@ -29,6 +29,8 @@ use Rattle.ftn_tree.specs.declared.parts.ProcedureWord.TheVariants as procedures
 use Rattle.ftn_tree.specs.declared.parts.BlockName.{BlockName}
 use Rattle.ftn_tree.specs.declared.parts.BlockName.TheVariants.{Unwritten, Blank, Named}
 use Rattle.ftn_tree.specs.declared.parts.CommonGroup.{CommonGroup}
+use Rattle.ftn_tree.specs.declared.parts.DataGroup.{DataGroup}
+use Rattle.ftn_tree.specs.declared.parts.Designator.{Designator}
 use Rattle.ftn_tree.specs.declared.parts.LeaveWord.{LeaveWord}
 use Rattle.ftn_tree.specs.declared.parts.LeaveWord.TheVariants as leave
 use Rattle.ftn_tree.specs.declared.parts.IoStyle.{IoStyle}
@@ -36,7 +38,7 @@ use Rattle.ftn_tree.specs.declared.parts.IoStyle.TheVariants as style
 use Rattle.ftn_tree.specs.Layers.{FormLayer}
 use Rattle.ftn_tree.specs.Lexemes.{lexeme_of, lexeme_by, is_word, is_word_at, is_text}
 use Rattle.ftn_tree.specs.Misfits.{is_colon_at}
-use Rattle.ftn_tree.specs.Phrases.{Phrase, nothing, ◌·◌, word, mark, mark_at, name, maybe, whether, provided, in_parens, commas, commas_or_none, after_commas}
+use Rattle.ftn_tree.specs.Phrases.{Phrase, nothing, ◌·◌, word, mark, mark_at, name, maybe, whether, provided, in_parens, commas, commas_or_none, after_commas, each}
 use Rattle.ftn_tree.specs.TypeForms.{type_text, length_selector, char_length, paren_length}
 use Rattle.ftn_tree.specs.SpecificationForms as decl
 use Rattle.ftn_tree.specs.UnitForms as units
@@ -292,10 +294,27 @@ free_groups (g ∷ rest) =
     lead_free (provided (not g.comma) (decl.group g) · decl.later_groups rest)
     (lead_seq (provided (not g.comma) (decl.group g)) (decl.later_groups rest) (λ at tokens says. lead_block_group g at tokens says.1))
 
+lead_designator : (d : Designator) → Lead (decl.designator d)
+lead_designator d = lead_seq (name d.name) (maybe (λ subscripts. in_parens (commas expr subscripts)) d.subscripts) (lead_name d.name)
+
+lead_data_group : (g : DataGroup) → Lead (decl.data_group g)
+lead_data_group g =
+    let more = mark lexeme.Divide · commas decl.data_value g.values · mark lexeme.Divide in
+    then_lead (whether g.comma (mark lexeme.Comma)) (commas decl.designator g.objects · more) (free_whether g.comma lexeme.Comma refl)
+    (lead_seq (commas decl.designator g.objects) more (lead_commas decl.designator lead_designator g.objects))
+
+free_data : (all : List DataGroup) → Free (decl.data_groups all)
+free_data [] = λ at tokens says. absurd says
+free_data (g ∷ rest) =
+    lead_free (provided (not g.comma) (decl.data_group g) · each decl.data_group rest)
+    (lead_seq (provided (not g.comma) (decl.data_group g)) (each decl.data_group rest) (λ at tokens says. lead_data_group g at tokens says.1))
+
 end_other : (which : EndWord) → is_one_of (codes "end" ++ units.end_text which) first_words ≡ false
 unfolding first_words
 end_other ends.Program = refl
 end_other ends.Module = refl
+end_other (ends.BlockData true) = refl
+end_other (ends.BlockData false) = refl
 end_other ends.Subroutine = refl
 end_other ends.Function = refl
 end_other ends.Interface = refl
@@ -303,14 +322,30 @@ end_other ends.If = refl
 end_other ends.Do = refl
 end_other ends.Select = refl
 
+-- the first word of an END
+abbrev end_start : Bool → EndWord → List ℕ
+end_start true which = codes "end" ++ units.end_text which
+end_start false which = codes "end"
+
+start_other : (joined : Bool) (which : EndWord) → is_one_of (end_start joined which) first_words ≡ false
+unfolding first_words
+start_other true which = end_other which
+start_other false which = refl
+
+opens_end : (joined : Bool) (which : EndWord) → Opening (end_start joined which) (units.end_first joined which)
+opens_end true which = opens_word (codes "end" ++ units.end_text which)
+opens_end false which = row_of (codes "end") (word (units.end_text which)) (lead_free (word (units.end_text which)) (lead_word (units.end_text which)))
+
+free_word : (holds : Bool) (text : List ℕ) → Free (whether holds (word text))
+free_word true text = lead_free (word text) (lead_word text)
+free_word false text = free_nothing
+
 ended_row : (joined : Bool) (which : EndWord) (phrase : Phrase) → Free phrase → NoStart (units.end_words joined which · phrase)
 unfolding first_words
-ended_row true which phrase free =
-    no_start (codes "end" ++ units.end_text which) (word (codes "end" ++ units.end_text which) · phrase) (end_other which) (row_of (codes "end" ++ units.end_text which) phrase free)
-ended_row false which phrase free =
-    no_start (codes "end") ((word (codes "end") · word (units.end_text which)) · phrase) refl
-    (opens_seq (codes "end") (word (codes "end") · word (units.end_text which)) phrase
-    (row_of (codes "end") (word (units.end_text which)) (lead_free (word (units.end_text which)) (lead_word (units.end_text which)))) free)
+ended_row joined which phrase free =
+    no_start (end_start joined which) (units.end_words joined which · phrase) (start_other joined which)
+    (opens_seq (end_start joined which) (units.end_words joined which) phrase
+    (opens_seq (end_start joined which) (units.end_first joined which) (whether (units.is_parted which) (word (codes "data"))) (opens_end joined which) (free_word (units.is_parted which) (codes "data"))) free)
 
 end_row : (ending : Option Ending) → NoStart (units.end_of ending)
 unfolding first_words
@@ -329,6 +364,12 @@ procedure_other procedures.Intrinsic = refl
 
 specification_row : (form : FormLayer) → NoStart (units.unit_form_at form)
 unfolding first_words
+specification_row (Form-F.BlockData true n) =
+    no_start (codes "blockdata") (word (codes "blockdata") · maybe name n) refl (row_of (codes "blockdata") (maybe name n) (free_maybe name lead_name n))
+specification_row (Form-F.BlockData false n) =
+    no_start (codes "block") ((word (codes "block") · word (codes "data")) · maybe name n) refl
+    (opens_seq (codes "block") (word (codes "block") · word (codes "data")) (maybe name n)
+    (row_of (codes "block") (word (codes "data")) (lead_free (word (codes "data")) (lead_word (codes "data")))) (free_maybe name lead_name n))
 specification_row (Form-F.Program n) = no_start (codes "program") (word (codes "program") · name n) refl (row_of (codes "program") (name n) (lead_free (name n) (lead_name n)))
 specification_row (Form-F.ModuleProcedure names) =
     let rest = word (codes "procedure") · commas name names in
@@ -372,6 +413,7 @@ specification_row (Form-F.Dimension colons arrays) =
 specification_row (Form-F.Parameter constants) =
     let more = in_parens (commas decl.constant constants) in
     no_start (codes "parameter") (word (codes "parameter") · more) refl (row_of (codes "parameter") more (lead_free more (lead_parens (commas decl.constant constants))))
+specification_row (Form-F.Data all) = no_start (codes "data") (word (codes "data") · decl.data_groups all) refl (row_of (codes "data") (decl.data_groups all) (free_data all))
 specification_row (Form-F.Save colons items) =
     no_start (codes "save") (word (codes "save") · decl.items_or_none decl.save_item colons items) refl
     (row_of (codes "save") (decl.items_or_none decl.save_item colons items) (free_items decl.save_item lead_saved colons items))

@@ -18,7 +18,7 @@ use Rattle.unit_parse.specs.declared.fault.NestFault.{NestFault}
 use Rattle.unit_parse.specs.declared.fault.NestFault.TheVariants as nest
 use Rattle.unit_parse.specs.declared.statements.Reading.{Reading}
 use Rattle.unit_parse.specs.Parsing.{HasNoTree, IsParseFault}
-use Rattle.unit_parse.specs.Progress.{Holds, bytes_of, unfinished}
+use Rattle.unit_parse.specs.steps.Progress.{Holds, bytes_of, unfinished}
 use Rattle.unit_parse.specs.Taking.{State, Answer, start, take_all, finish, finish_all, Finishes}
 use Rattle.unit_parse.proofs.NextStatement.{marks_length}
 use Rattle.unit_parse.proofs.Answers.{nested_ok, unfinished_at}

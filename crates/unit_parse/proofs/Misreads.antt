@@ -10,7 +10,7 @@ use Rattle.ftn_tree.specs.FileFaults.{row_in, SaysNothing, is_statement}
 use Rattle.expr_parse.specs.Exact.{IsExact, FitsNone}
 use Rattle.expr_parse.specs.declared.fault.StatementFault.{StatementFault}
 use Rattle.expr_parse.specs.declared.fault.StatementFault.TheVariants.{NotAStatement, OutOfProfile, TooDeep, NoMemory}
-use Rattle.unit_parse.specs.Progress.{IsForm}
+use Rattle.unit_parse.specs.steps.Progress.{IsForm}
 use Rattle.unit_parse.proofs.Apart.{apart}
 
 module _ (tokens : Tokens) (range : Range) where

@@ -19,7 +19,7 @@ use Rattle.unit_parse.specs.declared.fault.ParseFault.{ParseFault}
 use Rattle.unit_parse.specs.declared.fault.ParseFault.TheVariants as fault
 use Rattle.unit_parse.specs.declared.statements.Reading.{Reading}
 use Rattle.unit_parse.specs.Taking.{State, Outcome, start, go_on, Takes, take as take_mark, take_all}
-use Rattle.unit_parse.specs.Progress.{IsForm, AddsForm, Holds, Goes, Stays, Stops, StopsAt, refused, nothing}
+use Rattle.unit_parse.specs.steps.Progress.{IsForm, AddsForm, Holds, Goes, Stays, Stops, StopsAt, refused, nothing}
 use Rattle.unit_parse.proofs.Reached.{reached, reached_none}
 use Rattle.unit_parse.proofs.Closed.{begins}
 use Rattle.unit_parse.proofs.Answers.{goes_through, takes_none, kind_is}

@@ -97,6 +97,7 @@ interface_plain (Some name) = refl
 word_plain : (around : Region) (which : EndWord) (name : Option ℕ) → is_construct which ≡ false → all_plain (sections_in (opened_by around which name)) ≡ true
 word_plain around word.Program name e = refl
 word_plain around word.Module name e = refl
+word_plain around (word.BlockData joined) name e = refl
 word_plain around word.Subroutine name e = procedure_plain around
 word_plain around word.Function name e = procedure_plain around
 word_plain around word.Interface name e = interface_plain name

@@ -4,4 +4,4 @@ pub mod Following
 pub mod Levels
 pub mod Taking
 pub mod Parsing
-pub mod Progress
+pub mod steps

@@ -3,7 +3,7 @@
 ghost use Rattle.std.specs.Prelude.{◌≡◌, ◌<◌, ◌^◌, length, IfOk, IfErr};
 ghost use Rattle.ftn_tree.specs.FileFaults.{IsFileTree};
 ghost use Rattle.unit_parse.specs.Parsing.{HasNoTree, IsParseFault};
-ghost use Rattle.unit_parse.specs.Progress as spec;
+ghost use Rattle.unit_parse.specs.steps.Progress as spec;
 
 use crate::fault::{NestFault, ParseFault};
 use crate::statements::{Reading, first_bytes, read_all};

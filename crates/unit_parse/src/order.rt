@@ -24,6 +24,12 @@ const MODULE: &[Section] = &[
     Section::Any(Content::Procedure),
 ];
 
+const BLOCK_DATA: &[Section] = &[
+    Section::Any(Content::Use),
+    Section::Any(Content::Implicit),
+    Section::Any(Content::Data),
+];
+
 const INTERNAL: &[Section] = &[
     Section::Any(Content::Use),
     Section::Any(Content::Implicit),
@@ -57,6 +63,7 @@ pub fn sections_in(region: Region) -> &'static [Section]
         Region::File => &[Section::Any(Content::Unit)],
         Region::MainProgram | Region::ExternalProcedure | Region::ModuleProcedure => SCOPE,
         Region::Module => MODULE,
+        Region::BlockData => BLOCK_DATA,
         Region::InternalProcedure => INTERNAL,
         Region::Interface => &[Section::Any(Content::Procedure)],
         Region::GenericInterface => &[Section::Any(Content::Specific)],
@@ -74,6 +81,7 @@ pub fn opened(around: Region, what: Title) -> Region
     match what.word {
         EndWord::Program => Region::MainProgram,
         EndWord::Module => Region::Module,
+        EndWord::BlockData { .. } => Region::BlockData,
         EndWord::Subroutine | EndWord::Function => procedure_in(around),
         EndWord::Interface if what.name.is_some() => Region::GenericInterface,
         EndWord::Interface => Region::Interface,

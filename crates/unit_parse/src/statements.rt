@@ -2,7 +2,7 @@
 
 ghost use Rattle.std.specs.Prelude.{◌≡◌, ◌<◌, ◌^◌, length};
 ghost use Rattle.ftn_tree.specs.FileFaults as files;
-ghost use Rattle.unit_parse.specs.Progress as spec;
+ghost use Rattle.unit_parse.specs.steps.Progress as spec;
 
 use crate::fault::{NestFault, ParseFault};
 use crate::nesting::Nesting;

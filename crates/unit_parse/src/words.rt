@@ -20,6 +20,7 @@ fn number(word: EndWord) -> u32
         EndWord::If => 5,
         EndWord::Do => 6,
         EndWord::Select => 7,
+        EndWord::BlockData { .. } => 8,
     }
 }
 
@@ -45,7 +46,10 @@ fn is_procedure(word: EndWord) -> bool
 fn is_unit(word: EndWord) -> bool
     ensures { result ≡ spec.is_unit word }
 {
-    matches!(word, EndWord::Program | EndWord::Module) || is_procedure(word)
+    matches!(
+        word,
+        EndWord::Program | EndWord::Module | EndWord::BlockData { .. }
+    ) || is_procedure(word)
 }
 
 /// Whether it opens a construct.
@@ -82,11 +86,17 @@ fn is_executable(mark: Mark) -> bool
     matches!(mark, Mark::Action | Mark::Leave(_) | Mark::Return) || opens_construct(mark)
 }
 
+fn is_characteristic(mark: Mark) -> bool
+    ensures { result ≡ spec.is_characteristic mark }
+{
+    matches!(mark, Mark::Declaration | Mark::Intent)
+}
+
 fn is_specification(mark: Mark) -> bool
     ensures { result ≡ spec.is_specification mark }
 {
     match mark {
-        Mark::Characteristic | Mark::Specification => true,
+        Mark::Declaration | Mark::Intent | Mark::Data | Mark::Specification => true,
         Mark::Open(what) => same_word(what.word, EndWord::Interface),
         _ => false,
     }
@@ -103,7 +113,7 @@ pub fn begins_arm(mark: Mark) -> bool
 pub fn describes_procedure(mark: Mark) -> bool
     ensures { result ≡ (spec.is_implicit mark || spec.is_characteristic mark) }
 {
-    matches!(mark, Mark::Implicit | Mark::Characteristic)
+    matches!(mark, Mark::Implicit) || is_characteristic(mark)
 }
 
 /// Whether a statement is of that part of a region.
@@ -116,7 +126,8 @@ pub fn belongs(content: Content, mark: Mark) -> bool
         Content::Specific => matches!(mark, Mark::ModuleProcedure) || opens_procedure(mark),
         Content::Use => matches!(mark, Mark::Use),
         Content::Implicit => matches!(mark, Mark::Implicit),
-        Content::Characteristic => matches!(mark, Mark::Characteristic),
+        Content::Characteristic => is_characteristic(mark),
+        Content::Data => matches!(mark, Mark::Declaration | Mark::Data),
         Content::Specification => is_specification(mark),
         Content::Executable => is_executable(mark),
         Content::Contains => matches!(mark, Mark::Contains),
@@ -165,7 +176,11 @@ pub fn ends(tokens: &Tokens, region: Region, what: Title, mark: Mark) -> bool
     match mark {
         Mark::PlainEnd => matches!(
             region,
-            Region::MainProgram | Region::Module | Region::ExternalProcedure | Region::Body
+            Region::MainProgram
+                | Region::Module
+                | Region::BlockData
+                | Region::ExternalProcedure
+                | Region::Body
         ),
         Mark::End(by) => { same_word(by.word, what.word) && fits_name(tokens, by.name, what.name) }
         _ => false,

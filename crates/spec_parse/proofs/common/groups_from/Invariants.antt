@@ -1,5 +1,5 @@
 use Rattle.std.proofs.Common.{◌≡◌, ◌-◌}
-use Rattle.spec_parse.specs.Blocks as spec
+use Rattle.spec_parse.specs.steps.Blocks as spec
 use Rattle.spec_parse.proofs.common.groups_from.Given as goal
 
 abbrev pub invariant-turns : goal.invariant-turns

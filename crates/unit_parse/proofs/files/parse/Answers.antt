@@ -2,7 +2,7 @@ use Rattle.std.proofs.Common.{sym, ◌∙◌, ap, subst, List}
 use Rattle.ftn_tree.specs.declared.unit.Statement.{Statement}
 use Rattle.unit_parse.specs.Parsing.{HasNoTree, IsParseFault}
 use Rattle.unit_parse.specs.declared.fault.ParseFault.{ParseFault}
-use Rattle.unit_parse.specs.Progress as spec
+use Rattle.unit_parse.specs.steps.Progress as spec
 use Rattle.unit_parse.proofs.Endings.{tree_of, end_fault, end_tree}
 use Rattle.unit_parse.proofs.files.parse.Goals as goal
 

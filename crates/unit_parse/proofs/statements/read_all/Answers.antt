@@ -1,6 +1,6 @@
 use Rattle.std.proofs.Common.{rules, ◌<◌, ℕ, List, length, get_or, subst}
 use Rattle.ftn_base.specs.declared.place.Range.{Range}
-use Rattle.unit_parse.specs.Progress as spec
+use Rattle.unit_parse.specs.steps.Progress as spec
 use Rattle.unit_parse.proofs.NextStatement.{none, read_next, stops_here}
 use Rattle.unit_parse.proofs.statements.read_all.Goals as goal
 

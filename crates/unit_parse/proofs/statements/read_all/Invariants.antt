@@ -1,5 +1,5 @@
 use Rattle.std.proofs.Common.{◌≡◌, length, take}
-use Rattle.unit_parse.specs.Progress.{Holds}
+use Rattle.unit_parse.specs.steps.Progress.{Holds}
 use Rattle.unit_parse.proofs.statements.read_all.Given as goal
 
 -- the statements before are read

@@ -1,6 +1,6 @@
 use Rattle.std.proofs.Common.{◌≡◌, sym, subst}
 use Rattle.unit_parse.specs.declared.fault.ParseFault.{ParseFault}
-use Rattle.unit_parse.specs.Progress as spec
+use Rattle.unit_parse.specs.steps.Progress as spec
 use Rattle.unit_parse.proofs.NextStatement.{goes, stays}
 use Rattle.unit_parse.proofs.statements.Reading.add.Goals as goal
 

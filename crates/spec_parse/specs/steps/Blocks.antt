@@ -14,8 +14,8 @@ use Rattle.ftn_tree.specs.declared.lexeme.Lexeme.TheVariants as lexeme
 use Rattle.expr_parse.specs.Input.{Input, Reader, ◌>>=◌, ◌>>◌, pure, refuse, eat, expect, expect_word, sees, peek, peek_second, is_done, name}
 use Rattle.expr_parse.specs.Combinators.{◌<$>◌, ◌⊗◌, option_if, separated}
 use Rattle.expr_parse.specs.Reading.{expression}
-use Rattle.spec_parse.specs.Choices.{choose, choose_by, checked, closed_by, enclosed}
-use Rattle.spec_parse.specs.Bounds.{maybe_bounds}
+use Rattle.spec_parse.specs.steps.Choices.{choose, choose_by, checked, closed_by, enclosed}
+use Rattle.spec_parse.specs.steps.Bounds.{maybe_bounds}
 
 -- ---- COMMON
 

@@ -1,5 +1,5 @@
 -- How the statements that begin program units, procedures and interface blocks are read. It serves the proofs of the readers.
-use Rattle.std.specs.Prelude.{ℕ, Bool, false, ◌&&◌, if◌then◌else◌, List, ◌∷◌, codes, Option}
+use Rattle.std.specs.Prelude.{ℕ, Bool, true, false, ◌&&◌, if◌then◌else◌, List, ◌∷◌, codes, Option}
 use Rattle.ftn_tree.specs.declared.token.Token.{Token}
 use Rattle.ftn_tree.specs.declared.form.Form.{Form}
 use Rattle.ftn_tree.specs.declared.form.Form.TheVariants as form
@@ -8,7 +8,24 @@ use Rattle.ftn_tree.specs.declared.parts.TypeSpec.{TypeSpec}
 use Rattle.ftn_tree.specs.Lexemes.{lexeme_of, is_word, same_lexeme}
 use Rattle.expr_parse.specs.Input.{Reader, ◌>>◌, expect_word, name}
 use Rattle.expr_parse.specs.Combinators.{◌<$>◌, ◌⊗◌, option_if}
-use Rattle.spec_parse.specs.Names.{names, dummies, between_parens}
+use Rattle.spec_parse.specs.steps.Names.{names, dummies, between_parens}
+use Rattle.spec_parse.specs.steps.Choices.{choose_by_word}
+
+abbrev pub joined : ℕ → Bool
+joined number = true
+
+abbrev pub parted : ℕ → Bool
+parted number = false
+
+-- BLOCK DATA, which may be one word
+unfoldable pub block_words : Reader Bool
+block_words = choose_by_word (codes "blockdata") (joined <$> expect_word (codes "blockdata")) (parted <$> (expect_word (codes "block") >> expect_word (codes "data")))
+
+abbrev pub block_data_of : Bool × Option ℕ → Form
+block_data_of parts = form.BlockData parts.0 parts.1
+
+unfoldable pub block_data : Reader Form
+block_data = block_data_of <$> block_words ⊗ option_if lexeme.Word name
 
 unfoldable pub program : Reader Form
 program = form.Program <$> (expect_word (codes "program") >> name)

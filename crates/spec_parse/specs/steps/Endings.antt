@@ -7,11 +7,13 @@ use Rattle.ftn_tree.specs.declared.form.Form.{Form}
 use Rattle.ftn_tree.specs.declared.form.Form.TheVariants as form
 use Rattle.ftn_tree.specs.declared.lexeme.Lexeme.TheVariants as lexeme
 use Rattle.ftn_tree.specs.declared.parts.EndWord.{EndWord}
-use Rattle.ftn_tree.specs.declared.parts.EndWord.TheVariants.{Program, Module, Subroutine, Function, Interface, If, Do, Select}
+use Rattle.ftn_tree.specs.declared.parts.EndWord.TheVariants.{Program, Module, BlockData, Subroutine, Function, Interface, If, Do, Select}
 use Rattle.ftn_tree.specs.declared.parts.Ending.{Ending}
 use Rattle.ftn_tree.specs.Lexemes.{is_text}
 use Rattle.expr_parse.specs.Input.{Reader, ◌>>◌, pure, refuse, expect, sees_word, expect_word, name}
 use Rattle.expr_parse.specs.Combinators.{◌<$>◌, ◌⊗◌, option_if}
+use Rattle.ftn_tree.specs.UnitForms.{is_parted}
+use Rattle.spec_parse.specs.steps.Choices.{trailed}
 
 -- the word after END that a text is
 unfoldable pub end_word : List ℕ → Option EndWord
@@ -24,6 +26,8 @@ end_word text =
     else if is_text text (codes "if") then Some If
     else if is_text text (codes "do") then Some Do
     else if is_text text (codes "select") then Some Select
+    else if is_text text (codes "block") then Some (BlockData false)
+    else if is_text text (codes "blockdata") then Some (BlockData true)
     else None
 
 -- the same, where END is joined to it
@@ -37,6 +41,8 @@ joined_end_word text =
     else if is_text text (codes "endif") then Some If
     else if is_text text (codes "enddo") then Some Do
     else if is_text text (codes "endselect") then Some Select
+    else if is_text text (codes "endblock") then Some (BlockData false)
+    else if is_text text (codes "endblockdata") then Some (BlockData true)
     else None
 
 abbrev pub word_by : Bool → List ℕ → Option EndWord
@@ -55,12 +61,16 @@ abbrev pub taken_word : Option EndWord → Reader EndWord
 taken_word None = refuse
 taken_word (Some found) = expect lexeme.Word >> pure found
 
--- the word that ends what it names, to which END may be joined
+-- the word that ends what it names, or the first of two, to which END may be joined
 unfoldable pub ending_word : Bool → Reader EndWord
 ending_word joined i = taken_word (word_at_front joined i.rest) i
 
+-- the same with the second one
+unfoldable pub ending_words : Bool → Reader EndWord
+ending_words joined = trailed is_parted (codes "data") (ending_word joined)
+
 unfoldable pub ending : Bool → Reader Ending
-ending joined = (λ parts. record { word = parts.0; joined = joined; name = parts.1 }) <$> (ending_word joined ⊗ option_if lexeme.Word name)
+ending joined = (λ parts. record { word = parts.0; joined = joined; name = parts.1 }) <$> (ending_words joined ⊗ option_if lexeme.Word name)
 
 -- END, and the word and the name after it
 unfoldable pub parted_end : Reader (Option Ending)

@@ -10,14 +10,15 @@ use Rattle.expr_parse.specs.Input.{Reader, ◌>>=◌, refuse}
 use Rattle.expr_parse.specs.Combinators.{to_the_end}
 use Rattle.spec_parse.specs.declared.rows.Row.{Row}
 use Rattle.spec_parse.specs.declared.rows.Row.TheVariants as row
-use Rattle.spec_parse.specs.Units.{program, module_row, subroutine, function, contains, interface}
-use Rattle.spec_parse.specs.Endings.{end_row}
-use Rattle.spec_parse.specs.Uses.{use_row}
-use Rattle.spec_parse.specs.Implicits.{implicit}
-use Rattle.spec_parse.specs.Types.{type_spec}
-use Rattle.spec_parse.specs.Declaring.{declare_from}
-use Rattle.spec_parse.specs.Attributes.{dimension, parameter, save, access, external, intent}
-use Rattle.spec_parse.specs.Blocks.{common, equivalence}
+use Rattle.spec_parse.specs.steps.Units.{block_data, program, module_row, subroutine, function, contains, interface}
+use Rattle.spec_parse.specs.steps.Endings.{end_row}
+use Rattle.spec_parse.specs.steps.Uses.{use_row}
+use Rattle.spec_parse.specs.steps.Implicits.{implicit}
+use Rattle.spec_parse.specs.steps.Types.{type_spec}
+use Rattle.spec_parse.specs.steps.Declaring.{declare_from}
+use Rattle.spec_parse.specs.steps.Attributes.{dimension, parameter, save, access, external, intent}
+use Rattle.spec_parse.specs.steps.Blocks.{common, equivalence}
+use Rattle.spec_parse.specs.steps.Data.{data_row}
 
 abbrev pub is_type_word : List ℕ → Bool
 is_type_word text = is_text text (codes "integer") || is_text text (codes "logical") || is_text text (codes "character")
@@ -26,6 +27,7 @@ unfoldable pub attribute_row : List ℕ → Row
 attribute_row text =
     if is_text text (codes "dimension") then row.Dimension
     else if is_text text (codes "parameter") then row.Parameter
+    else if is_text text (codes "data") then row.Data
     else if is_text text (codes "save") then row.Save
     else if is_text text (codes "public") || is_text text (codes "private") then row.Access
     else if is_text text (codes "external") || is_text text (codes "intrinsic") then row.External
@@ -37,7 +39,8 @@ attribute_row text =
 -- what a statement that begins with the word may be
 unfoldable pub find_row : List ℕ → Row
 find_row text =
-    if is_text text (codes "program") then row.Program
+    if is_text text (codes "block") || is_text text (codes "blockdata") then row.BlockData
+    else if is_text text (codes "program") then row.Program
     else if is_text text (codes "module") then row.Module
     else if is_text text (codes "subroutine") then row.Subroutine
     else if is_text text (codes "function") then row.Function
@@ -69,6 +72,7 @@ unfoldable pub typed_row : Reader Form
 typed_row = type_spec >>= (λ ty j. if begins_function j.rest then function (Some ty) j else declare_from ty j)
 
 abbrev pub row_reader : Row → Reader Form
+row_reader row.BlockData = block_data
 row_reader row.Program = program
 row_reader row.Module = module_row
 row_reader row.Subroutine = subroutine
@@ -80,6 +84,7 @@ row_reader row.Interface = interface
 row_reader row.Typed = typed_row
 row_reader row.Dimension = dimension
 row_reader row.Parameter = parameter
+row_reader row.Data = data_row
 row_reader row.Save = save
 row_reader row.Access = access
 row_reader row.External = external

@@ -2,7 +2,7 @@
 use Rattle.std.specs.Prelude.{ℕ, Bool, if◌then◌else◌, List, Option, Some, None}
 use Rattle.ftn_tree.specs.declared.lexeme.Lexeme.{Lexeme}
 use Rattle.ftn_tree.specs.declared.lexeme.Lexeme.TheVariants as lexeme
-use Rattle.expr_parse.specs.Input.{Input, Reader, ◌>>=◌, ◌>>◌, pure, refuse, expect, sees, sees_word}
+use Rattle.expr_parse.specs.Input.{Input, Reader, ◌>>=◌, ◌>>◌, pure, refuse, expect, expect_word, sees, sees_word}
 use Rattle.expr_parse.specs.Combinators.{◌<$>◌}
 
 -- the one where that holds, and else the other
@@ -20,6 +20,10 @@ choose_by_word text = choose (sees_word text)
 -- what passes the test
 abbrev pub checked : {A : Type 0} → (A → Bool) → Reader A → Reader A
 checked test read = read >>= (λ a. if test a then pure a else refuse)
+
+-- what a word follows where that holds of it
+abbrev pub trailed : {A : Type 0} → (A → Bool) → List ℕ → Reader A → Reader A
+trailed test text read = read >>= (λ a. if test a then (expect_word text >> pure a) else pure a)
 
 -- the number of the first token, and what is read
 abbrev pub numbered : {A : Type 0} → Reader A → Reader (ℕ × A)

@@ -7,7 +7,7 @@ use Rattle.ftn_tree.specs.SpecificationForms.{are_dimensions}
 use Rattle.expr_parse.specs.Input.{Reader, ◌>>◌, expect}
 use Rattle.expr_parse.specs.Combinators.{◌<$>◌, ◌⊗◌, option_if, separated}
 use Rattle.expr_parse.specs.Reading.{expression}
-use Rattle.spec_parse.specs.Choices.{choose_by, checked, enclosed}
+use Rattle.spec_parse.specs.steps.Choices.{choose_by, checked, enclosed}
 
 abbrev pub pair : Option Expr → Option Expr → BoundPair
 pair low high = record { low = low; high = high }

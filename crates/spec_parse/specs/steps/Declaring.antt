@@ -13,11 +13,11 @@ use Rattle.ftn_tree.specs.SpecificationForms.{is_declaration}
 use Rattle.expr_parse.specs.Input.{Reader, ◌>>◌, expect, name}
 use Rattle.expr_parse.specs.Combinators.{◌<$>◌, ◌⊗◌, option_if, each_after_comma}
 use Rattle.expr_parse.specs.Reading.{expression}
-use Rattle.spec_parse.specs.Choices.{checked}
-use Rattle.spec_parse.specs.Types.{char_length}
-use Rattle.spec_parse.specs.Bounds.{maybe_bounds}
-use Rattle.spec_parse.specs.Attributes.{attribute}
-use Rattle.spec_parse.specs.Lists.{after_colons}
+use Rattle.spec_parse.specs.steps.Choices.{checked}
+use Rattle.spec_parse.specs.steps.Types.{char_length}
+use Rattle.spec_parse.specs.steps.Bounds.{maybe_bounds}
+use Rattle.spec_parse.specs.steps.Attributes.{attribute}
+use Rattle.spec_parse.specs.steps.Lists.{after_colons}
 
 -- `* length`, where `*` comes next
 unfoldable pub own_length : Reader (Option CharLength)

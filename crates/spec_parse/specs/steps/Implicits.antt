@@ -23,8 +23,8 @@ use Rattle.ftn_tree.specs.Lexemes.{lexeme_of, is_word, same_lexeme}
 use Rattle.expr_parse.specs.Input.{Reader, ◌>>=◌, ◌>>◌, pure, refuse, expect, expect_word, sees, sees_word}
 use Rattle.expr_parse.specs.Combinators.{◌<$>◌, ◌⊗◌, option_if, separated}
 use Rattle.expr_parse.specs.Reading.{constant}
-use Rattle.spec_parse.specs.Names.{between_parens}
-use Rattle.spec_parse.specs.Choices.{checked}
+use Rattle.spec_parse.specs.steps.Names.{between_parens}
+use Rattle.spec_parse.specs.steps.Choices.{checked}
 
 -- ---- lengths, which are whole numbers
 

@@ -1,0 +1,14 @@
+pub mod Choices
+pub mod Types
+pub mod Bounds
+pub mod Lists
+pub mod Attributes
+pub mod Declaring
+pub mod Blocks
+pub mod Data
+pub mod Names
+pub mod Units
+pub mod Endings
+pub mod Uses
+pub mod Implicits
+pub mod Rows
