@@ -19,3 +19,4 @@ pub mod PlacesLaws
 pub mod PieceLaws
 pub mod ConstantLaws
 pub mod RunSteps
+pub mod PlainTextLaws
