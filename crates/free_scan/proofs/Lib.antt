@@ -20,3 +20,4 @@ pub mod PieceLaws
 pub mod ConstantLaws
 pub mod RunSteps
 pub mod PlainTextLaws
+pub mod CalmLaws

@@ -1,6 +1,6 @@
 -- Bytes of one line that stand for themselves, so that their places adjoin, and the tokens among them. It serves the proof of
 -- the code.
-use Rattle.std.specs.Prelude.{ℕ, zero, suc, ◌+◌, Bool, not, false, ◌&&◌, ◌||◌, ◌==◌, nat_lt, if◌then◌else◌, List, [], ◌∷◌, ◌++◌, length, Option, Some, None}
+use Rattle.std.specs.Prelude.{ℕ, zero, suc, ◌+◌, Bool, not, false, ◌&&◌, ◌||◌, ◌==◌, nat_le, nat_lt, if◌then◌else◌, List, [], ◌∷◌, ◌++◌, length, Option, Some, None}
 use Rattle.ftn_base.specs.Limits.{name_limit}
 use Rattle.ftn_base.specs.declared.name.Edition.{Edition}
 use Rattle.ftn_base.specs.declared.fault.FaultKind.TheVariants as kinds
@@ -18,6 +18,11 @@ use Rattle.free_scan.specs.Scanning.{State}
 -- where that quote is open: a byte that ends no statement, and may stand there
 abbrev pub is_plain : Option ℕ → ℕ → Bool
 is_plain quote b = not (is_outside quote && b == 59 || is_wrong quote b)
+
+-- outside constants: a blank, or a letter, a digit or a mark but for `!`, `;`, `&` and quotes. Some such bytes are left out, so that
+-- the test is short
+abbrev pub is_calm : ℕ → Bool
+is_calm b = b == 32 || nat_le 40 b && nat_lt b 127 && not (b == 59)
 
 -- the quote that is open after the bytes, if each of them is such a byte
 abbrev pub plain_end : Option ℕ → List ℕ → Option (Option ℕ)

@@ -1,6 +1,6 @@
 //! Tokens of a row: bytes of one line, each of which stands for itself. So their places adjoin, and none is kept.
 
-ghost use Rattle.std.specs.Prelude.{◌≡◌, ◌<◌, ◌^◌, ◌+◌, ◌++◌, length, IfOk, OnOk};
+ghost use Rattle.std.specs.Prelude.{◌≡◌, ◌<◌, ◌^◌, ◌+◌, ◌++◌, None, length, IfOk, OnOk};
 ghost use Rattle.ftn_tree.specs.Breaks.{piece_breaches};
 ghost use Rattle.ftn_tree.specs.Reading.{over_run, token_of};
 ghost use Rattle.free_scan.specs.Firsts.{least};
@@ -8,7 +8,7 @@ ghost use Rattle.free_scan.specs.PlainText as spec;
 ghost use Rattle.free_scan.specs.PlainText.{adjoining};
 
 use crate::free_form::firsts::Firsts;
-use crate::free_form::line::{is_outside, is_wrong, quote_after};
+use crate::free_form::line::{calm_len, is_outside, is_wrong, quote_after};
 use crate::free_form::pieces::{after, front};
 use crate::free_form::values::{is_too_big, value_of};
 use ftn_base::{Edition, FaultKind, NoMemory, Range, name_limit};
@@ -23,8 +23,8 @@ fn is_plain(quote: Option<u8>, byte: u8) -> bool
     !(is_outside(quote) && byte == b';' || is_wrong(quote, byte))
 }
 
-/// The quote that is open after the bytes, if each of them stands for itself.
-pub(crate) fn plain_end(quote: Option<u8>, bytes: &[u8]) -> Option<Option<u8>>
+/// The quote that is open after the bytes, if each of them stands for itself, found byte by byte.
+fn walked_end(quote: Option<u8>, bytes: &[u8]) -> Option<Option<u8>>
     ensures { result ≡ spec.plain_end quote bytes.now }
 {
     let mut open = quote;
@@ -35,6 +35,23 @@ pub(crate) fn plain_end(quote: Option<u8>, bytes: &[u8]) -> Option<Option<u8>>
         open = quote_after(open, *byte);
     }
     Some(open)
+}
+
+/// The same where no quote is open at first.
+fn outside_end(bytes: &[u8]) -> Option<Option<u8>>
+    ensures { result ≡ spec.plain_end None bytes.now }
+{
+    walked_end(None, after(bytes, calm_len(bytes)))
+}
+
+/// The quote that is open after the bytes, if each of them stands for itself.
+pub(crate) fn plain_end(quote: Option<u8>, bytes: &[u8]) -> Option<Option<u8>>
+    ensures { result ≡ spec.plain_end quote bytes.now }
+{
+    match quote {
+        None => outside_end(bytes),
+        Some(_) => walked_end(quote, bytes),
+    }
 }
 
 /// The token of bytes that adjoin, the first of which stands there.
