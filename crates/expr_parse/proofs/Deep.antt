@@ -1,6 +1,7 @@
 -- How deep parentheses nest is found by counting them.
-use Rattle.std.proofs.Common.{◌≡◌, refl, sym, ◌∙◌, arith, ℕ, zero, suc, ◌+◌, ◌<◌, Bool, true, false, ◌||◌, List, [], ◌∷◌, length, take}
+use Rattle.std.proofs.Common.{◌≡◌, refl, ap, sym, ◌∙◌, arith, ℕ, zero, suc, ◌+◌, ◌≤◌, ◌<◌, Bool, true, false, ◌||◌, List, [], ◌∷◌, length, take}
 use Rattle.std.specs.Prelude.{nat_lt, filter, cond, IsTrue, ◌↔◌}
+use Rattle.std.proofs.lemmas.Bool.Decides.{nat_tests}
 use Rattle.std.proofs.lemmas.Grind.{common_steps}
 use Rattle.ftn_tree.specs.declared.token.Token.{Token}
 use Rattle.ftn_tree.specs.Misfits.{is_open, is_close, deepest, IsDeep}
@@ -102,3 +103,24 @@ decided_deep row false both e = absurd (cc e)
 pub decided_shallow : (row : List Token) (deep : Bool) → IsTrue deep ↔ IsDeep row → deep ≡ false → IsDeep row → ⊥
 decided_shallow row true both e = absurd (cc e)
 decided_shallow row false both e = λ deep. absurd (cc (both.1 deep))
+
+small_one : (b : Bool) → one_if b ≤ 1
+small_one true = omega arith
+small_one false = omega arith
+
+not_less : (a b : ℕ) → b ≤ a → nat_lt a b ≡ false
+not_less a b le = grind (arith, nat_tests)
+
+few_from : (row : List Token) (opened closed : ℕ) → opened + length row ≤ deepest + closed → deep_from opened closed row ≡ false
+few_from [] opened closed few = refl
+few_from (here ∷ rest) opened closed few =
+    let one : one_if (is_open here) ≤ 1 = small_one (is_open here) in
+    let le : opened + one_if (is_open here) ≤ deepest + (closed + one_if (is_close here)) = omega arith in
+    let more : (opened + one_if (is_open here)) + length rest ≤ deepest + (closed + one_if (is_close here)) = omega arith in
+    ap (λ deep. deep || deep_from (opened + one_if (is_open here)) (closed + one_if (is_close here)) rest) (not_less (deepest + (closed + one_if (is_close here))) (opened + one_if (is_open here)) le)
+    ∙ few_from rest (opened + one_if (is_open here)) (closed + one_if (is_close here)) more
+
+-- at most 200 tokens don't nest too deep
+pub few_shallow : (row : List Token) → length row ≤ 200 → false ≡ is_deep row
+unfolding is_deep
+few_shallow row few = let less : 0 + length row ≤ deepest + 0 = omega arith in sym (few_from row 0 0 less)

@@ -6,6 +6,7 @@ ghost use Rattle.expr_parse.specs.Reading as spec;
 
 use crate::cursor::Cursor;
 use crate::fault::Misfit;
+use ftn_base::Bytes;
 use ftn_tree::{Expr, Lexeme};
 use std::alloc::Global;
 
@@ -49,7 +50,7 @@ pub fn constant(alloc: Global, cursor: &mut Cursor<'_>) -> Result<Expr, Misfit>
         },
         Lexeme::Quoted => Expr::Quoted {
             token,
-            value: here.value.copy(alloc)?,
+            value: Bytes::from_slice(alloc, here.value.bytes())?,
         },
         _ => return Err(Misfit::NoFit),
     };

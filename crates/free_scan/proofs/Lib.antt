@@ -19,3 +19,5 @@ pub mod PlacesLaws
 pub mod PieceLaws
 pub mod ConstantLaws
 pub mod RunSteps
+pub mod PlainTextLaws
+pub mod CalmLaws

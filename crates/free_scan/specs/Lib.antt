@@ -14,3 +14,4 @@ pub mod LinesLeft
 pub mod RowsLeft
 pub mod ScanFaults
 pub mod Runs
+pub mod PlainText

@@ -5,6 +5,7 @@ mod firsts;
 mod line;
 mod pieces;
 mod reader;
+mod row;
 mod run;
 mod scanner;
 mod tokens;

@@ -25,6 +25,7 @@ mod limits;
 mod memory;
 mod name;
 mod place;
+mod short;
 mod status;
 mod steps;
 mod storage;
@@ -46,6 +47,7 @@ pub use limits::{
 pub use memory::NoMemory;
 pub use name::{Edition, Name, NameFault, is_name};
 pub use place::{Place, Range, Span, line_and_column, offset_at};
+pub use short::ShortBytes;
 pub use status::Status;
 pub use steps::Steps;
 pub use storage::{BlockList, Member, Object};

@@ -1,6 +1,6 @@
 //! Tokens.
 
-use ftn_base::{Bytes, Range};
+use ftn_base::{Range, ShortBytes};
 use sqlite_items::Items;
 
 /// What a token is (Fortran 90, 3.2).
@@ -33,7 +33,7 @@ pub struct Token {
     pub split: bool,
     /// A word or a dotted token in lower case, the bytes that a character constant stands for, or else the token's
     /// bytes. What a continuation puts between them is left out.
-    pub value: Bytes,
+    pub value: ShortBytes,
 }
 
 /// The tokens of a text.

@@ -10,7 +10,7 @@ ghost use Rattle.free_scan.specs.Tokens as tokens;
 ghost use Rattle.free_scan.specs.Tokens.{keep_if, placed_pieces_of, tokens_among};
 
 use crate::free_form::{is_mark, is_pair};
-use ftn_base::{Bytes, NoMemory, Range, folded, is_digit, is_letter, is_name_byte};
+use ftn_base::{NoMemory, Range, ShortBytes, is_digit, is_letter, is_name_byte};
 use ftn_tree::{Token, TokenKind};
 use sqlite_items::Items;
 use std::alloc::Global;
@@ -42,7 +42,7 @@ pub struct PlacedPiece {
     /// The line of its first byte, from 1.
     pub line: u32,
     /// The word in lower case, or else its bytes.
-    pub value: Bytes,
+    pub value: ShortBytes,
 }
 
 /// How many bytes stand before the next LF.
@@ -134,13 +134,13 @@ fn line_after(line: u32, kind: PieceKind) -> u32
 }
 
 /// What a piece of that kind says: the word in lower case, or else its bytes.
-fn value_of(alloc: Global, kind: PieceKind, bytes: &[u8]) -> Result<Bytes, NoMemory>
+fn value_of(alloc: Global, kind: PieceKind, bytes: &[u8]) -> Result<ShortBytes, NoMemory>
     ensures { IfOk result (λ made. made ≡ tokens.value_of kind bytes.now) }
 {
     if kind == PieceKind::Word {
-        Ok(Bytes::from_vec(folded(alloc, bytes)?))
+        ShortBytes::folded(alloc, bytes)
     } else {
-        Bytes::from_slice(alloc, bytes)
+        ShortBytes::from_slice(alloc, bytes)
     }
 }
 

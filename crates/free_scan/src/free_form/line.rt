@@ -1,11 +1,13 @@
 //! What one line of a text says.
 
 ghost use Rattle.std.specs.List.{list_all, prefix_len};
-ghost use Rattle.std.specs.Prelude.{◌≡◌, ◌+◌, ◌≤◌, ◌-◌, take, drop, length, reverse};
+ghost use Rattle.std.specs.Prelude.{◌≡◌, ◌+◌, ◌≤◌, ◌-◌, None, take, drop, length, reverse};
 ghost use Rattle.ftn_base.specs.Letters.{is_blank as blank};
 ghost use Rattle.ftn_tree.specs.Code as code;
 ghost use Rattle.ftn_tree.specs.Lines as lines;
+ghost use Rattle.free_scan.specs.PlainText as plain;
 
+use crate::free_form::pieces::after;
 use ftn_base::is_blank;
 
 /// Whether the first of the bytes is that one.
@@ -76,8 +78,24 @@ pub(crate) fn is_outside(quote: Option<u8>) -> bool
     quote.is_none()
 }
 
-/// How many bytes stand before a comment, where that quote is open at first.
-pub(crate) fn code_len(quote: Option<u8>, bytes: &[u8]) -> usize
+/// Whether the byte, outside constants, is a blank, or a letter, a digit or a mark but for `!`, `;`, `&` and quotes. A few such
+/// bytes are left out, so that the test is short.
+fn is_calm(byte: u8) -> bool
+    ensures { result ≡ plain.is_calm byte }
+{
+    byte == b' ' || byte >= b'(' && byte < 127 && byte != b';'
+}
+
+/// How many such bytes stand in front.
+pub(crate) fn calm_len(bytes: &[u8]) -> usize
+    ensures count { result ≡ prefix_len plain.is_calm bytes.now }
+    ensures fits { result ≤ length bytes.now }
+{
+    bytes.iter().take_while(|byte| is_calm(**byte)).count()
+}
+
+/// How many bytes stand before a comment, where that quote is open at first, found byte by byte.
+fn walked_len(quote: Option<u8>, bytes: &[u8]) -> usize
     ensures count { result ≡ code.code_len quote bytes.now }
     ensures fits { result ≤ length bytes.now }
 {
@@ -89,6 +107,26 @@ pub(crate) fn code_len(quote: Option<u8>, bytes: &[u8]) -> usize
         open = quote_after(open, *byte);
     }
     bytes.len()
+}
+
+/// How many bytes stand before a comment, where no quote is open at first.
+fn outside_len(bytes: &[u8]) -> usize
+    ensures count { result ≡ code.code_len None bytes.now }
+    ensures fits { result ≤ length bytes.now }
+{
+    let calm = calm_len(bytes);
+    calm + walked_len(None, after(bytes, calm))
+}
+
+/// How many bytes stand before a comment, where that quote is open at first.
+pub(crate) fn code_len(quote: Option<u8>, bytes: &[u8]) -> usize
+    ensures count { result ≡ code.code_len quote bytes.now }
+    ensures fits { result ≤ length bytes.now }
+{
+    match quote {
+        None => outside_len(bytes),
+        Some(_) => walked_len(quote, bytes),
+    }
 }
 
 /// How many blanks stand at the end.

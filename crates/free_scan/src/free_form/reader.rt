@@ -69,9 +69,8 @@ fn read_code(
         FaultKind::LoneAmpersand,
     );
     let quote = open_at(&before, body);
-    let end = scanner.take_text(quote, number, start, text, code)?;
     let goes_on = goes_on(whole);
-    scanner.end_line(goes_on)?;
+    let end = scanner.take_line(quote, number, start, text, goes_on, code)?;
     Ok(carried_if(goes_on, end, count, start + text.len() as u32))
 }
 

@@ -1,7 +1,7 @@
 //! Tokens of a run: bytes of a text that no continuation parts, each with its place.
 
 ghost use Rattle.std.specs.List.{All};
-ghost use Rattle.std.specs.Prelude.{◌≡◌, ◌<◌, ◌≤◌, ◌^◌, ◌+◌, ◌++◌, ◌∷◌, [], length, IfOk, OnOk};
+ghost use Rattle.std.specs.Prelude.{◌≡◌, ◌<◌, ◌≤◌, ◌^◌, ◌+◌, ◌++◌, ◌∷◌, [], true, length, IfOk, OnOk};
 ghost use Rattle.ftn_tree.specs.Breaks.{piece_breaches};
 ghost use Rattle.ftn_tree.specs.Reading as reading;
 ghost use Rattle.ftn_tree.specs.Reading.{over_run, token_of};
@@ -60,6 +60,13 @@ impl Run {
             return Err(NoMemory);
         }
         Ok(())
+    }
+
+    /// Whether it has no bytes.
+    pub(crate) fn is_empty(&self) -> bool
+        ensures { result ≡ true → self.now ≡ ([], []) }
+    {
+        self.bytes.is_empty()
     }
 
     /// Takes all bytes out. It keeps the memory.

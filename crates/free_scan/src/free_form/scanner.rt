@@ -7,10 +7,12 @@ ghost use Rattle.ftn_tree.specs.Code as code;
 ghost use Rattle.ftn_tree.specs.Code.{open_after};
 ghost use Rattle.ftn_tree.specs.Logical.{glyph, glyphs, gap, cut, is_cut};
 ghost use Rattle.free_scan.specs.Firsts.{least};
+ghost use Rattle.free_scan.specs.PlainText.{with_row};
 ghost use Rattle.free_scan.specs.Scanning as spec;
 
 use crate::free_form::firsts::Firsts;
 use crate::free_form::line::{is_outside, is_wrong, quote_after};
+use crate::free_form::row::{plain_end, read_row};
 use crate::free_form::run::Run;
 use ftn_base::{Edition, FaultKind, NoMemory, Range};
 use ftn_tree::{Spot, Token};
@@ -145,7 +147,7 @@ impl Scanner {
 
     /// A line ends, and its statement with it if it is so.
     #[tactic(auto, using(crate::proofs::ScanLaws::within_finished))]
-    pub(crate) fn end_line(&mut self, goes_on: bool) -> Result<(), NoMemory>
+    fn end_line(&mut self, goes_on: bool) -> Result<(), NoMemory>
         requires { spec.IsWithin (2 ^ 31 - 1) self.old }
         ensures state { OnOk result (self.new ≡ spec.taken_all self.old (if goes_on then [] else cut ∷ [])) }
         ensures within { OnOk result ((n : ℕ) → spec.IsWithin n self.old → spec.IsWithin n self.new) }
@@ -172,7 +174,7 @@ impl Scanner {
     }
 
     /// Takes bytes of a line, which begin at that offset, where that quote is open, and notes those that may not stand there.
-    pub(crate) fn take_text(
+    fn take_text(
         &mut self,
         quote: Option<u8>,
         line: u32,
@@ -202,6 +204,70 @@ impl Scanner {
             quote: open,
             is_cut,
         })
+    }
+
+    /// Reads bytes of a line that stand for themselves and adjoin from that offset on, where no run is left and no token goes on.
+    fn flush_row(&mut self, line: u32, at: u32, bytes: &[u8]) -> Result<(), NoMemory>
+        requires few { at + length bytes.now < 2 ^ 31 }
+        requires no_bytes { self.old.bytes ≡ [] }
+        requires no_spots { self.old.spots ≡ [] }
+        ensures { OnOk result (self.new ≡ spec.flushed (with_row line at bytes.now self.old)) }
+    {
+        let found = &mut self.items;
+        read_row(
+            self.alloc,
+            self.edition,
+            bytes,
+            line,
+            at,
+            found,
+            &mut self.firsts,
+        )
+    }
+
+    /// Reads bytes of a line that stand for themselves and adjoin from that offset on, where no run is left; their statement is
+    /// over.
+    fn cut_row(&mut self, line: u32, at: u32, bytes: &[u8]) -> Result<(), NoMemory>
+        requires few { at + length bytes.now < 2 ^ 31 }
+        requires within { spec.IsWithin at self.old }
+        requires no_bytes { self.old.bytes ≡ [] }
+        requires no_spots { self.old.spots ≡ [] }
+        ensures { OnOk result (self.new ≡ spec.finished (with_row line at bytes.now self.old)) }
+    {
+        self.flush_row(line, at, bytes)?;
+        self.end_statement()
+    }
+
+    /// Takes bytes of a line, which begin at that offset, where that quote is open, notes those that may not stand there, and
+    /// ends the line.
+    pub(crate) fn take_line(
+        &mut self,
+        quote: Option<u8>,
+        line: u32,
+        at: u32,
+        bytes: &[u8],
+        goes_on: bool,
+        code: &mut Firsts,
+    ) -> Result<TextEnd, NoMemory>
+        requires few { at + length bytes.now < 2 ^ 31 }
+        requires within { spec.IsWithin at self.old }
+        ensures state { OnOk result (self.new ≡ spec.taken_all (spec.taken_all self.old (glyphs quote line at bytes.now)) (if goes_on then [] else cut ∷ [])) }
+        ensures within { OnOk result (spec.IsWithin (at + length bytes.now) self.new) }
+        ensures code { OnOk result (code.new ≡ least code.old (wrong_bytes quote at bytes.now)) }
+        ensures end { IfOk result (λ end. (end.quote ≡ open_after quote bytes.now) × (end.is_cut ≡ list_any is_cut (glyphs quote line at bytes.now))) }
+    {
+        if !goes_on && self.run.is_empty() {
+            if let Some(open) = plain_end(quote, bytes) {
+                self.cut_row(line, at, bytes)?;
+                return Ok(TextEnd {
+                    quote: open,
+                    is_cut: false,
+                });
+            }
+        }
+        let end = self.take_text(quote, line, at, bytes, code)?;
+        self.end_line(goes_on)?;
+        Ok(end)
     }
 
     /// What was found: the tokens, the statements, and the first breach in pieces.

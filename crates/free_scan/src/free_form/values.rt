@@ -6,7 +6,7 @@ ghost use Rattle.ftn_tree.specs.Reading as reading;
 
 use crate::free_form::line::begins_with;
 use crate::free_form::pieces::after;
-use ftn_base::{Bytes, NoMemory, folded};
+use ftn_base::{NoMemory, ShortBytes};
 use ftn_tree::TokenKind;
 use std::alloc::Global;
 
@@ -59,12 +59,14 @@ fn constant_value(alloc: Global, bytes: &[u8]) -> Result<Vec<u8>, NoMemory>
 }
 
 /// What a token of that kind stands for: the word in lower case, what a constant stands for, or else its bytes.
-pub(crate) fn value_of(alloc: Global, kind: TokenKind, bytes: &[u8]) -> Result<Bytes, NoMemory>
+pub(crate) fn value_of(alloc: Global, kind: TokenKind, bytes: &[u8]) -> Result<ShortBytes, NoMemory>
     ensures { IfOk result (λ made. made ≡ reading.value_of kind bytes.now) }
 {
     match kind {
-        TokenKind::Word | TokenKind::Dotted => Ok(Bytes::from_vec(folded(alloc, bytes)?)),
-        TokenKind::Quoted => Ok(Bytes::from_vec(constant_value(alloc, bytes)?)),
-        TokenKind::Whole | TokenKind::RealForm | TokenKind::Mark => Bytes::from_slice(alloc, bytes),
+        TokenKind::Word | TokenKind::Dotted => ShortBytes::folded(alloc, bytes),
+        TokenKind::Quoted => Ok(ShortBytes::from_vec(constant_value(alloc, bytes)?)),
+        TokenKind::Whole | TokenKind::RealForm | TokenKind::Mark => ShortBytes::from_slice(
+            alloc, bytes,
+        ),
     }
 }
