@@ -7,9 +7,9 @@ ghost use Rattle.indexmap.specs.IndexSet.{insert_all};
 ghost use Rattle.ftn_base.specs.Accessible as spec;
 ghost use Rattle.use_assoc.specs.steps.Groups.{found_lists};
 
-use crate::exports::{Exports, exports_at};
 use crate::given::Given;
 use crate::groups::{Groups, grouped};
+use crate::offering::{Exports, exports_at};
 use crate::uses::{add_module, bad_item};
 use ftn_base::{EntityId, Name, NoMemory, UseList};
 use std::alloc::Global;

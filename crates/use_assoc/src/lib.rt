@@ -9,17 +9,17 @@
 
 mod access;
 mod association;
-mod exports;
 mod fault;
 mod given;
 mod groups;
 mod name_set;
+mod offering;
 mod table;
 mod uses;
 
 pub use access::exports;
 pub use association::{Accessible, association};
-pub use exports::Exports;
 pub use fault::UseFault;
 pub use ftn_base::{Access, UseItem, UseList};
+pub use offering::Exports;
 pub use uses::accessible;
