@@ -116,8 +116,8 @@ within_read n line at row s is = within_finished (n + length row) (with_row line
 -- a line of such bytes whose statement ends with it
 pub plain_line : (s : State) (q last : Option ℕ) (line at : ℕ) (row : List ℕ) (goes_on : Bool) → goes_on ≡ false → plain_end q row ≡ Some last
     → finished (with_row line at row s) ≡ taken_all (taken_all s (glyphs q line at row)) (if goes_on then [] else cut ∷ [])
-plain_line s q last line at row true no e = absurd (cc)
-plain_line s q last line at row false no e = ap finished (sym (plain_taken s q last line at row e))
+plain_line s q last line at row true ended e = absurd (cc)
+plain_line s q last line at row false ended e = ap finished (sym (plain_taken s q last line at row e))
 
 -- places that adjoin
 adjoining_length : (line at n : ℕ) → length (adjoining line at n) ≡ n
