@@ -78,6 +78,9 @@ calm_quote b calm = ap (λ c. if c then Some b else None) calm.quote
 calm_step : (b : ℕ) (rest : List ℕ) → Calm b → code_len None (b ∷ rest) ≡ suc (code_len None rest)
 calm_step b rest calm = ap (λ c. if c then 0 else suc (code_len (quote_after None b) rest)) calm.mark ∙ ap (λ q. suc (code_len q rest)) (calm_quote b calm)
 
+none_before : (n : ℕ) → n ≡ 0 + n
+none_before n = omega arith
+
 one_more : (n : ℕ) → suc n ≡ 1 + n
 one_more n = omega arith
 
@@ -90,7 +93,7 @@ calm_code (b ∷ rest) =
     cond_both (is_calm b) (1 + prefix_len is_calm rest) 0 (λ n. code_len None (b ∷ rest) ≡ n + code_len None (drop n (b ∷ rest)))
     (λ e. subst (λ n. code_len None (b ∷ rest) ≡ n + code_len None (drop n (b ∷ rest))) (one_more (prefix_len is_calm rest))
       (calm_step b rest (calm_is b e) ∙ ap suc (calm_code rest) ∙ suc_plus (prefix_len is_calm rest) (code_len None (drop (prefix_len is_calm rest) rest))))
-    (λ e. refl)
+    (λ e. none_before (code_len None (b ∷ rest)))
 
 pub calm_sum : (bytes : List ℕ) (n m : ℕ) → n ≡ prefix_len is_calm bytes → m ≡ code_len None (drop n bytes) → n + m ≡ code_len None bytes
 calm_sum bytes n m a b = ap (λ k. n + k) b ∙ ap (λ k. k + code_len None (drop k bytes)) a ∙ sym (calm_code bytes)
