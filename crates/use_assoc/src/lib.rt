@@ -8,7 +8,7 @@
 #![tactic(auto)]
 
 mod access;
-mod association;
+mod associating;
 mod fault;
 mod given;
 mod groups;
@@ -18,7 +18,7 @@ mod table;
 mod uses;
 
 pub use access::exports;
-pub use association::{Accessible, association};
+pub use associating::{Accessible, association};
 pub use fault::UseFault;
 pub use ftn_base::{Access, UseItem, UseList};
 pub use offering::Exports;

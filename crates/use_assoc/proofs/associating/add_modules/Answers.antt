@@ -10,7 +10,7 @@ use Rattle.indexmap.specs.IndexSet.{insert_all}
 use Rattle.ftn_base.specs.Accessible.{given_by, is_same_pair, exports_of}
 use Rattle.use_assoc.specs.steps.Groups.{found_lists, lists_in}
 use Rattle.use_assoc.proofs.Adding.{flat_next}
-use Rattle.use_assoc.proofs.association.add_modules.Goals as goal
+use Rattle.use_assoc.proofs.associating.add_modules.Goals as goal
 
 -- the iterator gave a module that the groups have, with its lists, and what they give was added
 pub loop-number-preserved : goal.loop-number-preserved

@@ -5,7 +5,7 @@ use Rattle.indexmap.specs.IndexMap.{keys}
 use Rattle.indexmap.specs.IndexSet.{insert_all}
 use Rattle.ftn_base.specs.Accessible.{is_same_pair, exports_of, given_by}
 use Rattle.use_assoc.specs.steps.Groups.{found_lists}
-use Rattle.use_assoc.proofs.association.add_modules.Given as goal
+use Rattle.use_assoc.proofs.associating.add_modules.Given as goal
 
 abbrev pub invariant-loop-number : goal.invariant-loop-number
 invariant-loop-number l = record {

@@ -2,7 +2,7 @@ use Rattle.std.proofs.Common.{◌+◌, sym, ap, ◌∙◌}
 use Rattle.ftn_base.specs.Accessible.{bad_item, entities_of}
 use Rattle.use_assoc.specs.steps.Table.{found_in}
 use Rattle.use_assoc.proofs.Modules.{first_found, first_passed}
-use Rattle.use_assoc.proofs.association.first_not_public.Goals as goal
+use Rattle.use_assoc.proofs.associating.first_not_public.Goals as goal
 
 pub returns-in-Some : goal.returns-in-Some
 returns-in-Some c =
