@@ -27,7 +27,7 @@ loop-number-preserved c =
           flat_next is_same_pair _ c.loop-number.given c.add_module.new.given
           (λ number. given_by (exports_of c.args.exports.now number) (found_lists c.args.groups.now number))
           c.in-Some.number.now (keys_of c.loop-number.number-iterator) (keys_of c.next.new.self) (ap keys_of front) c.loop-number.invariant.pairs
-          (c.in_ok-add_module.ensures ∙ ap (λ pairs. insert_all is_same_pair c.loop-number.given (given_by pairs (lists_in c.as_slice.result.now))) (c.pairs.ensures ∙ c.exports_at.ensures)
+          (c.in_ok-add_module.ensures ∙ ap (λ pairs. insert_all is_same_pair c.loop-number.given (given_by pairs (lists_in c.as_slice.result.now))) (c.pairs.ensures ∙ c.exports_at-of_module.ensures)
           ∙ ap (λ xs. insert_all is_same_pair c.loop-number.given (given_by (exports_of c.args.exports.now c.in-Some.number.now) xs)) lists);
       modules = All-rest (λ number. number < length c.args.exports.now) c.in-Some.number.now (keys_of c.next.new.self) (keys_of c.loop-number.number-iterator) (ap keys_of front) c.loop-number.invariant.modules;
     }

@@ -7,9 +7,11 @@ use Rattle.use_assoc.proofs.Once.{modules_within}
 use Rattle.use_assoc.proofs.associating.all_given.Goals as goal
 
 pub add_modules-requires : goal.add_modules-requires
-add_modules-requires c =
-    subst (All (λ number. number < length c.args.exports.now)) (sym c.in_ok-groups.ensures.0)
-    (modules_within (length c.args.exports.now) c.args.lists.now c.requires)
+add_modules-requires c = record {
+  modules =
+      subst (All (λ number. number < length c.args.exports.now)) (sym c.in_ok-groups.ensures.0)
+      (modules_within (length c.args.exports.now) c.args.lists.now c.requires);
+}
 
 pub returns : goal.returns
 returns c =
