@@ -92,7 +92,7 @@ calm_code [] = refl
 calm_code (b ∷ rest) =
     cond_both (is_calm b) (1 + prefix_len is_calm rest) 0 (λ n. code_len None (b ∷ rest) ≡ n + code_len None (drop n (b ∷ rest)))
     (λ e. subst (λ n. code_len None (b ∷ rest) ≡ n + code_len None (drop n (b ∷ rest))) (one_more (prefix_len is_calm rest))
-      (calm_step b rest (calm_is b e) ∙ ap suc (calm_code rest) ∙ suc_plus (prefix_len is_calm rest) (code_len None (drop (prefix_len is_calm rest) rest))))
+    (calm_step b rest (calm_is b e) ∙ ap suc (calm_code rest) ∙ suc_plus (prefix_len is_calm rest) (code_len None (drop (prefix_len is_calm rest) rest))))
     (λ e. none_before (code_len None (b ∷ rest)))
 
 pub calm_sum : (bytes : List ℕ) (n m : ℕ) → n ≡ prefix_len is_calm bytes → m ≡ code_len None (drop n bytes) → n + m ≡ code_len None bytes
@@ -108,7 +108,7 @@ calm_plain [] = refl
 calm_plain (b ∷ rest) =
     cond_both (is_calm b) (1 + prefix_len is_calm rest) 0 (λ n. plain_end None (drop n (b ∷ rest)) ≡ plain_end None (b ∷ rest))
     (λ e. subst (λ n. plain_end None (drop n (b ∷ rest)) ≡ plain_end None (b ∷ rest)) (one_more (prefix_len is_calm rest))
-      (calm_plain rest ∙ sym (plain_step b rest (calm_is b e))))
+    (calm_plain rest ∙ sym (plain_step b rest (calm_is b e))))
     (λ e. refl)
 
 pub calm_end : (bytes : List ℕ) (n : ℕ) (last : Option (Option ℕ)) → n ≡ prefix_len is_calm bytes → last ≡ plain_end None (drop n bytes) → last ≡ plain_end None bytes
