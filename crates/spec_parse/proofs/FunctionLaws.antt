@@ -110,6 +110,7 @@ typed_made ty form at tokens (before, after, split, says, (all, same, says_rest)
 
 -- a declaration is written as a specification
 declared_is : (layer : FormLayer) (at : ℕ) (tokens : List Token) → declaration_at layer at tokens → unit_form_at layer at tokens
+declared_is (Form-F.BlockData joined n) at tokens says = absurd says
 declared_is (Form-F.Program n) at tokens says = absurd says
 declared_is (Form-F.ModuleProcedure names) at tokens says = absurd says
 declared_is (Form-F.Module n) at tokens says = absurd says
