@@ -8,7 +8,6 @@ mod fields;
 mod item_rows;
 mod modules;
 mod plan_rows;
-mod storage;
 mod texts;
 mod tie_rows;
 mod types;

@@ -1,7 +1,7 @@
 //! Sizes and ties, and the classes, offsets and sizes that they make, or the tie that contradicts and its two units.
 
 ghost use Rattle.std.specs.Prelude.{◌≡◌, ◌<◌, ◌^◌, true, sum, All};
-ghost use Rattle.equiv_class.specs.Sound.{IsWithin};
+ghost use Rattle.ftn_base.specs.Storage.{IsWithin};
 
 use crate::tests::fields::{halves, numbers};
 use equiv_class::{TieFault, classes};

@@ -1,7 +1,7 @@
 use Rattle.std.proofs.Common.{◌≡◌, List, All, rules, subst, take_all, true}
 use Rattle.std.proofs.lemmas.List.Elements.{All-more}
 use Rattle.ftn_base.specs.declared.entity.Tie.{Tie}
-use Rattle.equiv_class.specs.Sound.{IsWithin}
+use Rattle.ftn_base.specs.Storage.{IsWithin}
 use Rattle.crate_tests.proofs.tests.tie_rows.are_within.Goals as goal
 
 -- what a read past the end would give

@@ -1,5 +1,5 @@
 use Rattle.std.proofs.Common.{take, All}
-use Rattle.equiv_class.specs.Sound.{IsWithin}
+use Rattle.ftn_base.specs.Storage.{IsWithin}
 use Rattle.crate_tests.proofs.tests.tie_rows.are_within.Given as goal
 
 abbrev pub invariant-loop-tie : goal.invariant-loop-tie
