@@ -9,6 +9,7 @@ pub mod Roles
 pub mod Expressions
 pub mod PartMentions
 pub mod Mentions
+pub mod Wants
 pub mod Kinds
 pub mod Lexemes
 pub mod Operators

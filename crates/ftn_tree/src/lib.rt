@@ -15,6 +15,8 @@ mod table;
 mod token;
 mod unit;
 mod value;
+mod want;
+mod wants;
 
 pub use expr::{Expr, Part};
 pub use form::Form;
@@ -35,3 +37,4 @@ pub use table::{Bound, Entity, EntityKind, Occurrence, Scope, ScopeKind, Stateme
 pub use token::{Token, TokenKind, Tokens};
 pub use unit::{Arm, Block, FileTree, Statement, Unit};
 pub use value::{Kind, Value, Values};
+pub use want::{Placed, Want};

@@ -1,0 +1,7 @@
+use Rattle.std.proofs.Common.{◌≡◌, ◌++◌, take}
+use Rattle.std.specs.List.{flat_map}
+use Rattle.ftn_tree.specs.Wants.{of_data_group}
+use Rattle.ftn_tree.proofs.wants.declared.place_data_groups.Given as goal
+
+abbrev pub invariant-loop-group : goal.invariant-loop-group
+invariant-loop-group l = l.found.items ≡ l.initial.found.items ++ flat_map of_data_group (take l.group-index l.groups)
