@@ -31,3 +31,11 @@ pub mod NestFaults
 pub mod FileFaults
 pub mod ListItems
 pub mod ListRecords
+pub mod Extents
+pub mod Scopes
+pub mod ScopeLetters
+pub mod Sayings
+pub mod Exclusions
+pub mod GlobalNames
+pub mod DeclarationFaults
+pub mod DeclaredEntities

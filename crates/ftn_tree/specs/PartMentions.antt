@@ -199,14 +199,19 @@ in_block block.Unwritten = []
 in_block (block.Blank slash joined) = []
 in_block (block.Named slash token) = mention token role.Slash ∷ []
 
-abbrev pub in_member : CommonMember → List Mention
-in_member m = mention_with m.name role.Member (where_written role.Bounded m.bounds) ∷ in_own_bounds m.bounds
+abbrev pub member_role : BlockName → Role
+member_role block.Unwritten = role.Member
+member_role (block.Blank slash joined) = role.Member
+member_role (block.Named slash token) = role.NamedMember
 
-abbrev pub in_members : List CommonMember → List Mention
-in_members members = flat_map in_member members
+abbrev pub in_member : Role → CommonMember → List Mention
+in_member which m = mention_with m.name which (where_written role.Bounded m.bounds) ∷ in_own_bounds m.bounds
+
+abbrev pub in_members : Role → List CommonMember → List Mention
+in_members which members = flat_map (in_member which) members
 
 abbrev pub in_group : CommonGroup → List Mention
-in_group g = in_block g.block ++ in_members g.members
+in_group g = in_block g.block ++ in_members (member_role g.block) g.members
 
 abbrev pub in_groups : List CommonGroup → List Mention
 in_groups groups = flat_map in_group groups

@@ -36,6 +36,7 @@ is_declaration role.IntentIn = true
 is_declaration role.IntentOut = true
 is_declaration role.IntentInOut = true
 is_declaration role.Member = true
+is_declaration role.NamedMember = true
 is_declaration role.Tied = true
 is_declaration _ = false
 

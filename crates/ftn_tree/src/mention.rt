@@ -60,8 +60,10 @@ pub enum Role {
     IntentOut,
     /// INTENT(INOUT).
     IntentInOut,
-    /// A member in COMMON (5.5.2).
+    /// A member of blank common in COMMON (5.5.2).
     Member,
+    /// A member of a named block in COMMON (5.5.2).
+    NamedMember,
     /// In EQUIVALENCE (5.5.1).
     Tied,
     /// An object of DATA (5.2.9).
@@ -78,6 +80,10 @@ pub enum Role {
     Ranged,
     /// The same without parentheses, or as a DO variable.
     Plain,
+    /// In its host: the name of a module procedure or an internal procedure, where that opens (11.3, 12.1.2.2).
+    Inner,
+    /// In its host: the name of an interface body, where that opens (12.3.2.1).
+    Body,
 }
 
 impl Role {
@@ -126,6 +132,7 @@ impl Role {
                 | Role::IntentOut
                 | Role::IntentInOut
                 | Role::Member
+                | Role::NamedMember
                 | Role::Tied
         )
     }

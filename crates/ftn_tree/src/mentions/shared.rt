@@ -34,27 +34,38 @@ fn member_roles(alloc: Global, bounds: &Option<Items<BoundPair>>) -> Result<Item
     Ok(also)
 }
 
+fn member_role(block: BlockName) -> Role
+    ensures { result ≡ spec.member_role block }
+{
+    match block {
+        BlockName::Unwritten | BlockName::Blank { .. } => Role::Member,
+        BlockName::Named { .. } => Role::NamedMember,
+    }
+}
+
 fn push_member(
     alloc: Global,
+    role: Role,
     member: &CommonMember,
     found: &mut Vec<Mention>,
 ) -> Result<(), NoMemory>
-    ensures { OnOk result (found.new.items ≡ found.old.items ++ spec.in_member member.now) }
+    ensures { OnOk result (found.new.items ≡ found.old.items ++ spec.in_member role member.now) }
 {
     let also = member_roles(alloc, &member.bounds)?;
-    push_mention(member.name, Role::Member, also, found)?;
+    push_mention(member.name, role, also, found)?;
     push_if_bounds(alloc, &member.bounds, found)
 }
 
-pub(crate) fn push_members(
+fn push_members(
     alloc: Global,
+    role: Role,
     members: &[CommonMember],
     found: &mut Vec<Mention>,
 ) -> Result<(), NoMemory>
-    ensures { OnOk result (found.new.items ≡ found.old.items ++ spec.in_members members.now) }
+    ensures { OnOk result (found.new.items ≡ found.old.items ++ spec.in_members role members.now) }
 {
     for member in members {
-        push_member(alloc, member, found)?;
+        push_member(alloc, role, member, found)?;
     }
     Ok(())
 }
@@ -63,7 +74,12 @@ fn push_group(alloc: Global, group: &CommonGroup, found: &mut Vec<Mention>) -> R
     ensures { OnOk result (found.new.items ≡ found.old.items ++ spec.in_group group.now) }
 {
     push_block(alloc, group.block, found)?;
-    push_members(alloc, group.members.as_slice(), found)
+    push_members(
+        alloc,
+        member_role(group.block),
+        group.members.as_slice(),
+        found,
+    )
 }
 
 pub(crate) fn push_groups(
