@@ -29,6 +29,7 @@ pub mod Regions
 pub mod Nesting
 pub mod NestFaults
 pub mod FileFaults
+pub mod RowNames
 pub mod ListItems
 pub mod ListRecords
 pub mod Extents

@@ -20,7 +20,7 @@ mod wants;
 
 pub use expr::{Expr, Part};
 pub use form::Form;
-pub use laws::operators_are_those_of_tokens;
+pub use laws::{names_are_those_of_tokens, operators_are_those_of_tokens};
 pub use lexeme::Lexeme;
 pub use mark::{Content, Mark, Region, Section, Title};
 pub use mention::{Mention, Role};
