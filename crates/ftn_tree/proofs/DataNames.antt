@@ -35,11 +35,11 @@ block_named (block.Blank slash true) = mark_at_named slash lexeme.Concat refl
 block_named (block.Blank slash false) = both (mark_at_named slash lexeme.Divide refl) (mark_named lexeme.Divide refl)
 block_named (block.Named slash number) = both (mark_at_named slash lexeme.Divide refl) (both (name_named (mention number role.Slash)) (mark_named lexeme.Divide refl))
 
-member_named : {letters : Bool} (m : CommonMember) → Names letters (text.member m) (spec.in_member m)
-member_named m = both (name_named (mention_with m.name role.Member (spec.where_written role.Bounded m.bounds))) (own_bounds_named m.bounds)
+member_named : {letters : Bool} (which : Role) (m : CommonMember) → Names letters (text.member m) (spec.in_member which m)
+member_named which m = both (name_named (mention_with m.name which (spec.where_written role.Bounded m.bounds))) (own_bounds_named m.bounds)
 
 group_named : {letters : Bool} (g : CommonGroup) → Names letters (text.group g) (spec.in_group g)
-group_named g = both (whether_named g.comma (mark_named lexeme.Comma refl)) (both (block_named g.block) (commas_named member_named g.members))
+group_named g = both (whether_named g.comma (mark_named lexeme.Comma refl)) (both (block_named g.block) (commas_named (member_named (spec.member_role g.block)) g.members))
 
 later_groups_named : {letters : Bool} (groups : List CommonGroup) → Names letters (text.later_groups groups) (spec.in_groups groups)
 later_groups_named [] = none_named
