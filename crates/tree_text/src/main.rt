@@ -1,4 +1,5 @@
-//! `tree_text`: the tokens, statements and program units of a Fortran text on standard input, or its first fault.
+//! `tree_text`: the tokens, statements and program units of a Fortran text on standard input, its names with what is said of them, its
+//! expressions with what their places want, or its first fault.
 #![tactic(auto)]
 
 ghost use Rattle.std.specs.Prelude.{◌<◌, ◌≤◌, ◌^◌, length};
@@ -9,11 +10,13 @@ mod declarations;
 mod expressions;
 mod headings;
 mod line;
+mod said;
 mod statements;
 mod tokens;
 mod units;
 
 use crate::line::{join, put, put_place};
+use crate::said::{put_expressions, put_mentions};
 use crate::statements::put_statements;
 use crate::tokens::put_tokens;
 use crate::units::put_units;
@@ -33,6 +36,8 @@ enum Shown {
     Tokens,
     Statements,
     Units,
+    Names,
+    Expressions,
     Both,
 }
 
@@ -46,6 +51,8 @@ fn asked(rt: &HostRuntime) -> Option<Shown> {
             b"tokens" => Shown::Tokens,
             b"statements" => Shown::Statements,
             b"units" => Shown::Units,
+            b"names" => Shown::Names,
+            b"expressions" => Shown::Expressions,
             _ => return None,
         },
     };
@@ -81,13 +88,17 @@ fn put_tree(
     tree: &FileTree,
     shown: Shown,
 ) -> Result<(), NoMemory> {
-    if !matches!(shown, Shown::Units) {
-        put_statements(alloc, out, &tree.tokens, tree.statements.as_slice())?;
+    let (tokens, statements) = (&tree.tokens, tree.statements.as_slice());
+    match shown {
+        Shown::Names => put_mentions(alloc, out, tokens, statements),
+        Shown::Expressions => put_expressions(alloc, out, tokens, statements),
+        Shown::Units => put_units(alloc, out, tree, tree.units.as_slice(), 0),
+        Shown::Tokens | Shown::Statements => put_statements(alloc, out, tokens, statements),
+        Shown::Both => {
+            put_statements(alloc, out, tokens, statements)?;
+            put_units(alloc, out, tree, tree.units.as_slice(), 0)
+        }
     }
-    if !matches!(shown, Shown::Statements) {
-        put_units(alloc, out, tree, tree.units.as_slice(), 0)?;
-    }
-    Ok(())
 }
 
 /// Adds the tree that these tokens have, or the line of their first fault.
@@ -153,7 +164,10 @@ fn answer(rt: &HostRuntime) -> Result<Status, NoMemory> {
             put_text(rt.alloc(), &mut out, &text, shown)?
         }
         None => {
-            join(&mut out, b"one word at most: tokens, statements or units\n")?;
+            join(
+                &mut out,
+                b"one word at most: tokens, statements, units, names or expressions\n",
+            )?;
             Status::BadWords
         }
     };
