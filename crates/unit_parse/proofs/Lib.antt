@@ -9,6 +9,7 @@ pub mod Rows
 pub mod Reached
 pub mod Closed
 pub mod Unended
+pub mod LeftOpen
 pub mod Answers
 pub mod Exact
 pub mod NextStatement
