@@ -16,3 +16,7 @@ pub mod NextStatement
 pub mod Endings
 pub mod Apart
 pub mod Misreads
+pub mod OneTree
+pub mod OneFault
+pub mod OneBreak
+pub mod OneText

@@ -59,7 +59,7 @@ module _ (tokens : Tokens) where
   one_read range (statement ∷ []) are = (statement, refl, are.0)
   one_read range (statement ∷ other ∷ statements) are = absurd are.1
 
-  first_read : (range : Range) (more : List Range) (statements : List Statement) → AreRead tokens (range ∷ more) statements
+  pub first_read : (range : Range) (more : List Range) (statements : List Statement) → AreRead tokens (range ∷ more) statements
       → (statement : Statement) × (rest : List Statement) × (statements ≡ statement ∷ rest) × IsRead tokens range statement
   first_read range more [] are = absurd are
   first_read range more (statement ∷ rest) are = (statement, rest, refl, are.0)
