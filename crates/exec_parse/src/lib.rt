@@ -5,8 +5,10 @@ mod actions;
 mod cases;
 mod executables;
 mod ifs;
+mod laws;
 mod lists;
 mod loops;
 mod transfers;
 
 pub use executables::executable;
+pub use laws::one_executable;

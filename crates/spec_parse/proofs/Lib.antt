@@ -39,3 +39,4 @@ pub mod DataValues
 pub mod DataLaws
 pub mod StatementLaws
 pub mod Judging
+pub mod OneForm

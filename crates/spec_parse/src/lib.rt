@@ -9,6 +9,7 @@ mod data;
 mod declare;
 mod endings;
 mod implicits;
+mod laws;
 mod list;
 mod names;
 mod rows;
@@ -17,4 +18,5 @@ mod types;
 mod units;
 mod uses;
 
+pub use laws::one_specification;
 pub use specifications::specification;

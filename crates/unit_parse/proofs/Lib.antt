@@ -9,9 +9,14 @@ pub mod Rows
 pub mod Reached
 pub mod Closed
 pub mod Unended
+pub mod LeftOpen
 pub mod Answers
 pub mod Exact
 pub mod NextStatement
 pub mod Endings
 pub mod Apart
 pub mod Misreads
+pub mod OneTree
+pub mod OneFault
+pub mod OneBreak
+pub mod OneText

@@ -13,5 +13,8 @@ mod words;
 
 pub use fault::{NestFault, ParseFault};
 pub use files::parse;
-pub use laws::{nesting_is_decided, statements_are_apart};
+pub use laws::{
+    nesting_is_decided, one_answer_per_file, one_answer_per_text, one_statement,
+    statements_are_apart,
+};
 pub use nesting::{Nesting, nest};
