@@ -28,5 +28,7 @@ pub mod Regions
 pub mod Nesting
 pub mod NestFaults
 pub mod FileFaults
+pub mod ProjectFaults
+pub mod ProjectLimits
 pub mod ListItems
 pub mod ListRecords
