@@ -1,7 +1,8 @@
 -- Tokens that have the form of a primary are read as it, where this holds of the expressions inside.
-use Rattle.std.proofs.Common.{◌≡◌, refl, sym, ◌∙◌, ap, subst, arith, lit≤, ℕ, zero, suc, ◌≤◌, ◌<◌, ◌^◌, ℤ, pos, Bool, true, false, List, [], ◌∷◌, ◌++◌, length, Option, Some, None, append_assoc, if◌then◌else◌}
-use Rattle.std.specs.Prelude.{nat_lt}
+use Rattle.std.proofs.Common.{◌≡◌, refl, sym, ◌∙◌, ap, subst, arith, lit≤, ℕ, zero, suc, ◌≤◌, ℤ, pos, Bool, true, false, List, [], ◌∷◌, ◌++◌, length, Option, Some, None, append_assoc, if◌then◌else◌}
+use Rattle.std.specs.Prelude.{nat_le}
 use Rattle.std.proofs.lemmas.Grind.{common_steps}
+use Rattle.ftn_base.specs.Limits.{greatest_integer}
 use Rattle.ftn_tree.specs.declared.token.Token.{Token}
 use Rattle.ftn_tree.specs.declared.expr.Expr.{Expr}
 use Rattle.ftn_tree.specs.declared.expr.Expr.TheVariants as exprs
@@ -35,7 +36,7 @@ whole_is at i j here number value is_at next is =
     ∙ ap (λ number. Some (exprs.Whole number (pos (number_of here.value)), after i)) (sym is_at)
     ∙ ap (λ value. Some (exprs.Whole number value, after i)) (sym is.value_is)
     ∙ ap (λ next. Some (exprs.Whole number value, next)) next where
-      fits : (n : ℕ) → n < 2 ^ 31 → nat_lt n (2 ^ 31) ≡ true
+      fits : (n : ℕ) → n ≤ greatest_integer → nat_le n greatest_integer ≡ true
       fits n small = grind arith
 
 pub constant_here : (i : Input) (here : Token) (rest : List Token) (kind : Lexeme) → i.rest ≡ here ∷ rest → lexeme_of here ≡ kind → reading.constant i ≡ reading.take_one (reading.constant_by kind i.at here.value) i

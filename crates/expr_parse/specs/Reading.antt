@@ -1,5 +1,6 @@
 -- How expressions are read. It serves the proof of the code; what is promised stands in the grammar of `ftn_tree`.
-use Rattle.std.specs.Prelude.{ℕ, zero, suc, ◌^◌, ℤ, pos, true, false, nat_lt, if◌then◌else◌, List, [], ◌∷◌, ◌++◌, length, Option, Some, None}
+use Rattle.std.specs.Prelude.{ℕ, zero, suc, ℤ, pos, true, false, nat_le, if◌then◌else◌, List, [], ◌∷◌, ◌++◌, length, Option, Some, None}
+use Rattle.ftn_base.specs.Limits.{greatest_integer}
 use Rattle.ftn_tree.specs.declared.token.Token.{Token}
 use Rattle.ftn_tree.specs.declared.expr.Expr.{Expr}
 use Rattle.ftn_tree.specs.declared.expr.Expr.TheVariants as e
@@ -16,7 +17,7 @@ use Rattle.expr_parse.specs.Operators.{next_operator, next_sign, chained}
 
 -- the number that digits mean, where it is small enough
 unfoldable pub whole_value : List ℕ → Option ℤ
-whole_value digits = if nat_lt (number_of digits) (2 ^ 31) then Some (pos (number_of digits)) else None
+whole_value digits = if nat_le (number_of digits) greatest_integer then Some (pos (number_of digits)) else None
 
 abbrev pub whole_at : ℕ → Option ℤ → Option Expr
 whole_at at None = None

@@ -8,10 +8,8 @@ ghost use Rattle.expr_parse.specs.Faults as spec;
 ghost use Rattle.expr_parse.specs.Exact as exact;
 
 use crate::fault::StatementFault;
+use ftn_base::MOST_PARENTHESES;
 use ftn_tree::{Lexeme, Token, TokenKind};
-
-/// How deep parentheses may nest.
-const DEEPEST: usize = 200;
 
 fn is_open(here: &Token) -> bool
     ensures { result ≡ outside.is_open here.now }
@@ -44,7 +42,7 @@ pub fn is_deep(tokens: &[Token]) -> bool
 fn nests_too_deep(tokens: &[Token]) -> bool
     ensures { result ≡ spec.is_deep tokens.now }
 {
-    if tokens.len() <= DEEPEST {
+    if tokens.len() <= MOST_PARENTHESES {
         false
     } else {
         counts_too_deep(tokens)
@@ -60,7 +58,7 @@ fn counts_too_deep(tokens: &[Token]) -> bool
     for here in tokens {
         opened += one_if(is_open(here));
         closed += one_if(is_close(here));
-        if DEEPEST + closed < opened {
+        if MOST_PARENTHESES + closed < opened {
             return true;
         }
     }

@@ -8,7 +8,7 @@ use Rattle.std.proofs.lemmas.List.{length-take}
 use Rattle.std.proofs.lemmas.List.Concat.{flat_map-cons}
 use Rattle.std.proofs.lemmas.List.Sums.{prefix_len-le-length}
 use Rattle.ftn_base.specs.Letters.{is_blank}
-use Rattle.ftn_base.specs.Limits.{continuation_limit}
+use Rattle.ftn_base.specs.Limits.{continuation_limit, line_limit}
 use Rattle.ftn_base.specs.declared.name.Edition.{Edition}
 use Rattle.ftn_base.specs.declared.fault.FaultKind.{FaultKind}
 use Rattle.ftn_base.specs.declared.fault.FaultKind.TheVariants as kinds
@@ -16,7 +16,7 @@ use Rattle.ftn_tree.specs.declared.piece.PieceKind.{PieceKind}
 use Rattle.ftn_tree.specs.declared.piece.PieceKind.TheVariants as pieces
 use Rattle.ftn_tree.specs.declared.piece.Spot.{Spot}
 use Rattle.ftn_tree.specs.declared.token.TokenKind.TheVariants as tokens
-use Rattle.ftn_tree.specs.Breaks.{Among, Breach, breaches_from, breaches_of, end_breaches, line_breaches, line_limit, long_line, only_if, piece_breaches, wrong_bytes}
+use Rattle.ftn_tree.specs.Breaks.{Among, Breach, breaches_from, breaches_of, end_breaches, line_breaches, long_line, only_if, piece_breaches, wrong_bytes}
 use Rattle.ftn_tree.specs.Code.{before_mark, code_len, code_of, goes_on, is_outside, is_wrong, leads, quote_after, stem_len}
 use Rattle.ftn_tree.specs.Lines.{Line, begins_with, code_lines, indent, is_comment, is_line_feed, lines_of, placed, without_return}
 use Rattle.ftn_tree.specs.Logical.{Carried, Glyph, byte, gap, cut, after_line, count_at, glyph, glyphs, joins, is_carried, line_glyphs, open_at, row_from, row_of, said, skipped, stands_alone, text_of, text_glyphs}

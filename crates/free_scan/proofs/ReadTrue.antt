@@ -7,6 +7,7 @@ use Rattle.std.specs.Str.{bytes_eq}
 use Rattle.std.proofs.lemmas.Bool.{and_parts}
 use Rattle.std.proofs.lemmas.List.{take-append-drop}
 use Rattle.std.proofs.lemmas.Slice.Eq.{bytes_eq-Decides}
+use Rattle.ftn_base.specs.Limits.{greatest_integer}
 use Rattle.free_scan.specs.Reading.{◌>>=◌, and_last, fitting, is_closing, is_comma, is_declaration, is_lower_name, read_all, read_body, read_declaration, read_name, read_names, read_opening, read_operand, read_print, read_program, read_sign, read_statement, read_sum, read_sums, read_term, read_terms, says_mark, says_word, word_of}
 use Rattle.free_scan.specs.Spelling.{Lexeme, word, whole, mark, commas, is_some_row, spell_declaration, spell_operand, spell_program, spell_sign, spell_statement, spell_sum, spell_terms}
 use Rattle.free_scan.specs.declared.first_form.program.Operand.{Operand}
@@ -63,7 +64,7 @@ operand_true (word name) operand e =
     word_true (word name) found.0 found.1 ∙ ap spell_operand found.2
 operand_true (whole n) operand e =
     let found = mapped (λ value. operands.Whole value) (fitting n) operand e in
-    let fits = tested (nat_le n 2147483647) (Some n) found.0 found.1 in
+    let fits = tested (nat_le n greatest_integer) (Some n) found.0 found.1 in
     ap whole (some_is n found.0 fits.1) ∙ ap spell_operand found.2
 operand_true (mark text) operand e = absurd cc
 

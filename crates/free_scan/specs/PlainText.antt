@@ -1,7 +1,7 @@
 -- Bytes of one line that stand for themselves, so that their places adjoin, and the tokens among them. It serves the proof of
 -- the code.
 use Rattle.std.specs.Prelude.{ℕ, zero, suc, ◌+◌, Bool, not, false, ◌&&◌, ◌||◌, ◌==◌, nat_le, nat_lt, if◌then◌else◌, List, [], ◌∷◌, ◌++◌, length, Option, Some, None}
-use Rattle.ftn_base.specs.Limits.{name_limit}
+use Rattle.ftn_base.specs.Limits.{greatest_integer, name_limit}
 use Rattle.ftn_base.specs.declared.name.Edition.{Edition}
 use Rattle.ftn_base.specs.declared.fault.FaultKind.TheVariants as kinds
 use Rattle.ftn_tree.specs.declared.token.TokenKind.{TokenKind}
@@ -10,7 +10,7 @@ use Rattle.ftn_tree.specs.declared.token.Token.{Token}
 use Rattle.ftn_tree.specs.declared.piece.PieceKind.{PieceKind}
 use Rattle.ftn_tree.specs.declared.piece.PieceKind.TheVariants as pieces
 use Rattle.ftn_tree.specs.declared.piece.Spot.{Spot}
-use Rattle.ftn_tree.specs.Breaks.{Breach, greatest, number_of, only_if}
+use Rattle.ftn_tree.specs.Breaks.{Breach, number_of, only_if}
 use Rattle.ftn_tree.specs.Code.{is_outside, is_wrong, quote_after}
 use Rattle.ftn_tree.specs.Reading.{value_of}
 use Rattle.free_scan.specs.Scanning.{State}
@@ -69,7 +69,7 @@ row_breaches edition pieces.Blank bytes at = []
 row_breaches edition pieces.Stray bytes at = (at, kinds.BadByte) ∷ []
 row_breaches edition pieces.Unclosed bytes at = (at, kinds.OpenText) ∷ []
 row_breaches edition (pieces.Token tokens.Word) bytes at = only_if (nat_lt (name_limit edition) (length bytes)) (at, kinds.LongName)
-row_breaches edition (pieces.Token tokens.Whole) bytes at = only_if (nat_lt greatest (number_of bytes)) (at, kinds.BigNumber)
+row_breaches edition (pieces.Token tokens.Whole) bytes at = only_if (nat_lt greatest_integer (number_of bytes)) (at, kinds.BigNumber)
 row_breaches edition (pieces.Token tokens.RealForm) bytes at = []
 row_breaches edition (pieces.Token tokens.Quoted) bytes at = []
 row_breaches edition (pieces.Token tokens.Dotted) bytes at = []

@@ -1,8 +1,8 @@
 -- is_plain as one pass over a text, which counts the bytes since the last LF. It serves the proof of the code.
 use Rattle.std.specs.Prelude.{ℕ, ◌+◌, Bool, ◌&&◌, ◌==◌, nat_le, List, [], ◌∷◌, if◌then◌else◌}
 use Rattle.ftn_base.specs.Letters.{is_within}
+use Rattle.ftn_base.specs.Limits.{line_limit}
 use Rattle.ftn_tree.specs.Lines.{is_line_feed}
-use Rattle.ftn_tree.specs.Breaks.{line_limit}
 
 -- whether what follows that many plain bytes of a line makes a plain text with them
 abbrev pub plain_from : ℕ → List ℕ → Bool

@@ -4,7 +4,7 @@ use Rattle.std.specs.List.{prefix_len, slice_split}
 use Rattle.std.specs.Option.{option_map}
 use Rattle.std.specs.Str.{bytes_eq}
 use Rattle.ftn_base.specs.Letters.{folded}
-use Rattle.ftn_base.specs.Limits.{name_limit}
+use Rattle.ftn_base.specs.Limits.{greatest_integer, name_limit}
 use Rattle.ftn_base.specs.Names.{is_name}
 use Rattle.ftn_base.specs.declared.name.Edition.TheVariants.{F90}
 use Rattle.free_scan.specs.declared.first_form.program.Operand.{Operand}
@@ -58,7 +58,7 @@ is_comma lexeme = says_mark (codes ",") lexeme
 
 -- a whole number that a variable may have
 abbrev pub fitting : ℕ → Option ℕ
-fitting n = if nat_le n 2147483647 then Some n else None
+fitting n = if nat_le n greatest_integer then Some n else None
 
 abbrev pub read_operand : Lexeme → Option Operand
 read_operand (word name) = option_map (λ found. operands.Variable found) (word_of (word name))

@@ -35,6 +35,17 @@ pub const MOST_UNITS_OF_ONE: u32 = 1_048_576;
 /// How many storage units all variables and results may have.
 pub const MOST_UNITS_OF_ALL: u32 = 16_777_216;
 
+/// A limit that a project passes.
+#[derive(Clone, Copy)]
+pub enum Limit {
+    /// It has more than `MOST_FILES` files.
+    Files,
+    /// One of its files has more than `MOST_FILE_BYTES` bytes.
+    File,
+    /// Its files up to one of them have more than `MOST_PROJECT_BYTES` bytes.
+    Project,
+}
+
 /// How many bytes a name of the edition may have (3.2.1).
 pub fn name_limit(edition: Edition) -> usize
     ensures { result ≡ spec.name_limit edition }

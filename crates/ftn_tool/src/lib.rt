@@ -5,7 +5,6 @@ mod apply;
 mod carry;
 mod checking;
 mod command;
-mod limit;
 mod lines;
 mod order;
 mod project;

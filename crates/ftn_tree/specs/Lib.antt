@@ -30,6 +30,8 @@ pub mod Nesting
 pub mod NestFaults
 pub mod FileFaults
 pub mod RowNames
+pub mod ProjectFaults
+pub mod ProjectLimits
 pub mod ListItems
 pub mod ListRecords
 pub mod Extents

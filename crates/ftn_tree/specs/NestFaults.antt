@@ -1,6 +1,7 @@
 -- The first fault in the nesting of statements.
 use Rattle.std.specs.Prelude.{◌≡◌, ◌⊎◌, ℕ, Bool, true, false, ◌&&◌, ◌||◌, nat_le, not, if◌then◌else◌, List, [], ◌∷◌, ◌++◌, length, map, slice_get, Option, Some, None}
 use Rattle.std.specs.Str.{bytes_eq}
+use Rattle.ftn_base.specs.Limits.{most_constructs}
 use Rattle.ftn_base.specs.declared.fault.FaultKind.{FaultKind}
 use Rattle.ftn_base.specs.declared.fault.FaultKind.TheVariants.{Misplaced, OutOfProfile, TooDeep}
 use Rattle.ftn_tree.specs.declared.token.Token.{Token}
@@ -14,7 +15,7 @@ use Rattle.ftn_tree.specs.declared.mark.Region.{Region}
 use Rattle.ftn_tree.specs.declared.mark.Region.TheVariants as region
 use Rattle.ftn_tree.specs.Marks.{mark_of, opens_construct, is_implicit, is_characteristic}
 use Rattle.ftn_tree.specs.Regions.{region_of, depth}
-use Rattle.ftn_tree.specs.Nesting.{Row, spelled, IsNested, most_constructs, Nested, Begins}
+use Rattle.ftn_tree.specs.Nesting.{Row, spelled, IsNested, Nested, Begins}
 
 -- ---- what the statements leave open
 

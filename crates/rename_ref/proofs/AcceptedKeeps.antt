@@ -8,6 +8,8 @@ use Rattle.std.proofs.lemmas.Slice.Eq.{bytes_eq-Decides}
 use Rattle.ftn_base.specs.Keywords.{is_keyword, is_intrinsic}
 use Rattle.ftn_base.specs.Letters.{folded, fold_byte, is_letter, is_name_byte, is_upper, is_within}
 use Rattle.ftn_base.specs.Names.{is_name}
+use Rattle.ftn_base.specs.Limits.{line_limit, name_limit}
+use Rattle.ftn_base.specs.declared.name.Edition.TheVariants.{F90}
 use Rattle.free_scan.specs.Lines.{lines, is_plain}
 use Rattle.free_scan.specs.Spelling.{Lexeme, lexeme_rows, spell_program}
 use Rattle.free_scan.specs.Clean.{is_clean, is_free_name, is_among, variables, are_distinct, statement_names}
@@ -92,11 +94,11 @@ pub record IsRenaming (old new : List ℕ) (cs : List Chunk) (p : Program) : Typ
   pub spelled : lexeme_rows (placed_in 0 1 cs) ≡ spell_program p
   pub clean : IsClean p
   pub is_free : is_keyword old ≡ false
-  pub name : is_name 31 new ≡ true
+  pub name : is_name (name_limit F90) new ≡ true
   pub no_keyword : is_keyword (folded new) ≡ false
   pub no_intrinsic : is_intrinsic (folded new) ≡ false
   pub not_captured : find (λ (token : Token). bytes_eq token.value (folded new)) (name_tokens (tokens_in 0 1 cs)) ≡ None
-  pub short : AreShort old new 31 name (chunk_lines cs)
+  pub short : AreShort old new (name_limit F90) name (chunk_lines cs)
 
 module _ (old new : List ℕ) (cs : List Chunk) (p : Program) (a : IsRenaming old new cs p) where
   -- the renaming
@@ -109,11 +111,11 @@ module _ (old new : List ℕ) (cs : List Chunk) (p : Program) (a : IsRenaming ol
 
   -- each stands at the front
   pub new_fronts : AreFronts new_cs
-  new_fronts = fronts_renamed old new 31 a.name cs a.fronts
+  new_fronts = fronts_renamed old new (name_limit F90) a.name cs a.fronts
 
   -- the new name is free
   free_new : is_free_name (folded new) ≡ true
-  free_new = all_three (is_name 31 (folded new)) (is_keyword (folded new)) (is_intrinsic (folded new)) (folded_name 31 new a.name) a.no_keyword a.no_intrinsic
+  free_new = all_three (is_name (name_limit F90) (folded new)) (is_keyword (folded new)) (is_intrinsic (folded new)) (folded_name (name_limit F90) new a.name) a.no_keyword a.no_intrinsic
     where
       all_three : (n k i : Bool) → n ≡ true → k ≡ false → i ≡ false → ((n && not k) && not i) ≡ true
       all_three n k i hn hk hi = rw (hn, hk, hi) refl
@@ -142,7 +144,7 @@ module _ (old new : List ℕ) (cs : List Chunk) (p : Program) (a : IsRenaming ol
   -- The new text spells the renamed program.
   pub new_spells : IsProgramText (joined new_cs) (map_program r p)
   new_spells = record {
-    plain = plain_renamed old new 31 a.name cs (are_fine cs a.fronts) (are_fine new_cs new_fronts) a.plain a.short;
+    plain = plain_renamed old new (name_limit F90) a.name cs (are_fine cs a.fronts) (are_fine new_cs new_fronts) a.plain a.short;
     spelled =
         ap (option_map lexeme_rows) new_placed
         ∙ ap some_rows (rows_renamed old new 0 0 1 1 cs ∙ ap (map (map (map_lexeme r))) a.spelled
@@ -321,25 +323,25 @@ get_map g (y ∷ xs) zero x e = ap (option_map g) e
 get_map g (y ∷ xs) (suc i) x e = get_map g xs i x e
 
 -- where LongLine does not fail, each line with a replaced word is short enough
-lines_short : (old new : List ℕ) (cs : List Chunk) (fs : AreFronts cs) (name : is_name 31 new ≡ true) → is_keyword old ≡ false
-    → find (λ (t : Token). nat_lt 133 (line_length (joined (map (put old new) cs)) t.line)) (denoting old (tokens_in 0 1 cs)) ≡ None → AreShort old new 31 name (chunk_lines cs)
+lines_short : (old new : List ℕ) (cs : List Chunk) (fs : AreFronts cs) (name : is_name (name_limit F90) new ≡ true) → is_keyword old ≡ false
+    → find (λ (t : Token). nat_lt (line_limit + 1) (line_length (joined (map (put old new) cs)) t.line)) (denoting old (tokens_in 0 1 cs)) ≡ None → AreShort old new (name_limit F90) name (chunk_lines cs)
 lines_short old new cs fs name free none i l e h =
-    let q : ℕ → Bool = λ n. not (nat_lt 133 (line_length (joined (map (put old new) cs)) n)) in
-    let d : list_all (λ (t : Token). not (nat_lt 133 (line_length (joined (map (put old new) cs)) t.line))) (tokens_where (is_old old) 0 1 cs) ≡ true =
-    ap (list_all (λ (t : Token). not (nat_lt 133 (line_length (joined (map (put old new) cs)) t.line)))) (sym (denoting_in old free 0 1 cs))
-    ∙ find_none (λ (t : Token). nat_lt 133 (line_length (joined (map (put old new) cs)) t.line)) (denoting old (tokens_in 0 1 cs)) none in
-    let k : not (nat_lt 133 (line_length (joined (map (put old new) cs)) (1 + i))) ≡ true = token_on_line old (λ n. not (nat_lt 133 (line_length (joined (map (put old new) cs)) n))) 0 1 cs d i l e h in
+    let q : ℕ → Bool = λ n. not (nat_lt (line_limit + 1) (line_length (joined (map (put old new) cs)) n)) in
+    let d : list_all (λ (t : Token). not (nat_lt (line_limit + 1) (line_length (joined (map (put old new) cs)) t.line))) (tokens_where (is_old old) 0 1 cs) ≡ true =
+    ap (list_all (λ (t : Token). not (nat_lt (line_limit + 1) (line_length (joined (map (put old new) cs)) t.line)))) (sym (denoting_in old free 0 1 cs))
+    ∙ find_none (λ (t : Token). nat_lt (line_limit + 1) (line_length (joined (map (put old new) cs)) t.line)) (denoting old (tokens_in 0 1 cs)) none in
+    let k : not (nat_lt (line_limit + 1) (line_length (joined (map (put old new) cs)) (1 + i))) ≡ true = token_on_line old (λ n. not (nat_lt (line_limit + 1) (line_length (joined (map (put old new) cs)) n))) 0 1 cs d i l e h in
     let n : (1 + i) - 1 ≡ i = omega arith in
     let w : lines (joined (map (put old new) cs)) ≡ map joined (map (map (put old new)) (chunk_lines cs)) =
-    lines_joined (map (put old new) cs) (are_fine (map (put old new) cs) (fronts_renamed old new 31 name cs fs)) ∙ ap (map joined) (lines_put old new cs) in
+    lines_joined (map (put old new) cs) (are_fine (map (put old new) cs) (fronts_renamed old new (name_limit F90) name cs fs)) ∙ ap (map joined) (lines_put old new cs) in
     let g : slice_get (map joined (map (map (put old new)) (chunk_lines cs))) i ≡ Some (joined (map (put old new) l)) =
     get_map joined (map (map (put old new)) (chunk_lines cs)) i (map (put old new) l) (get_map (map (put old new)) (chunk_lines cs) i l e) in
     let m : line_length (joined (map (put old new) cs)) (1 + i) ≡ length (joined (map (put old new) l)) =
     ap (λ (j : ℕ). length (unwrap_or (slice_get (lines (joined (map (put old new) cs))) j) [])) n
     ∙ ap (λ (ls : List (List ℕ)). length (unwrap_or (slice_get ls i) [])) w
     ∙ ap (λ (o : Option (List ℕ)). length (unwrap_or o [])) g in
-    let z : nat_lt 133 (line_length (joined (map (put old new) cs)) (1 + i)) ≡ false = not-true (nat_lt 133 (line_length (joined (map (put old new) cs)) (1 + i))) k in
-    let y = ltb-false 133 (line_length (joined (map (put old new) cs)) (1 + i)) z in
+    let z : nat_lt (line_limit + 1) (line_length (joined (map (put old new) cs)) (1 + i)) ≡ false = not-true (nat_lt (line_limit + 1) (line_length (joined (map (put old new) cs)) (1 + i))) k in
+    let y = ltb-false (line_limit + 1) (line_length (joined (map (put old new) cs)) (1 + i)) z in
     omega (arith, y, m)
 
 -- ---- the whole

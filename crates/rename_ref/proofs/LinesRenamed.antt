@@ -7,6 +7,7 @@ use Rattle.std.proofs.lemmas.Slice.Eq.{ends_is}
 use Rattle.ftn_base.specs.Letters.{is_letter, is_digit, is_name_byte, folded}
 use Rattle.ftn_base.specs.Names.{is_name}
 use Rattle.std.specs.List.{onto_first}
+use Rattle.ftn_base.specs.Limits.{line_limit}
 use Rattle.ftn_tree.specs.Lines.{is_line_feed}
 use Rattle.free_scan.specs.Lines.{lines, is_plain_byte, is_plain_line, is_plain}
 use Rattle.ftn_tree.specs.Pieces.{is_pair, is_mark}
@@ -295,25 +296,25 @@ none_put old new (c ∷ cs) h =
 
 module _ (old new : List ℕ) (limit : ℕ) (name : is_name limit new ≡ true) where
   -- a plain line is plain after the replacing, if it is short enough
-  line_plain : (cs : List Chunk) → AreFine cs → is_plain_line (joined cs) ≡ true → (list_any (is_old old) cs ≡ true → length (joined (map (put old new) cs)) ≤ 133) → is_plain_line (joined (map (put old new) cs)) ≡ true
+  line_plain : (cs : List Chunk) → AreFine cs → is_plain_line (joined cs) ≡ true → (list_any (is_old old) cs ≡ true → length (joined (map (put old new) cs)) ≤ (line_limit + 1)) → is_plain_line (joined (map (put old new) cs)) ≡ true
   line_plain cs fs p short = go (list_any (is_old old) cs) refl short
     where
-      go : (t : Bool) → list_any (is_old old) cs ≡ t → (t ≡ true → length (joined (map (put old new) cs)) ≤ 133) → is_plain_line (joined (map (put old new) cs)) ≡ true
+      go : (t : Bool) → list_any (is_old old) cs ≡ t → (t ≡ true → length (joined (map (put old new) cs)) ≤ (line_limit + 1)) → is_plain_line (joined (map (put old new) cs)) ≡ true
       go false none h = ap is_plain_line (none_put old new cs none) ∙ p
       go true some h =
-          let s = and_parts (ends_with ◌==◌ (joined cs) (10 ∷ []) && nat_le (length (joined cs)) 133) (list_all is_plain_byte (joined cs)) p in
-          let t = and_parts (ends_with ◌==◌ (joined cs) (10 ∷ [])) (nat_le (length (joined cs)) 133) s.0 in
+          let s = and_parts (ends_with ◌==◌ (joined cs) (10 ∷ []) && nat_le (length (joined cs)) (line_limit + 1)) (list_all is_plain_byte (joined cs)) p in
+          let t = and_parts (ends_with ◌==◌ (joined cs) (10 ∷ [])) (nat_le (length (joined cs)) (line_limit + 1)) s.0 in
           let e = (ends_is {E = ◌==◌} Decides-eqb (joined cs) (10 ∷ []) (ends_with ◌==◌ (joined cs) (10 ∷ [])) refl).0 t.0 in
           let r = line_ends old new cs fs (take (length (joined cs) - 1) (joined cs), e) in
           let d : ends_with ◌==◌ (joined (map (put old new) cs)) (10 ∷ []) ≡ true =
           (ends_is {E = ◌==◌} Decides-eqb (joined (map (put old new) cs)) (10 ∷ []) (ends_with ◌==◌ (joined (map (put old new) cs)) (10 ∷ [])) refl).1 r.0 r.1 in
-          and_from (ends_with ◌==◌ (joined (map (put old new) cs)) (10 ∷ []) && nat_le (length (joined (map (put old new) cs))) 133) (list_all is_plain_byte (joined (map (put old new) cs)))
-          (and_from (ends_with ◌==◌ (joined (map (put old new) cs)) (10 ∷ [])) (nat_le (length (joined (map (put old new) cs))) 133) d (le-leb (length (joined (map (put old new) cs))) 133 (h refl)))
+          and_from (ends_with ◌==◌ (joined (map (put old new) cs)) (10 ∷ []) && nat_le (length (joined (map (put old new) cs))) (line_limit + 1)) (list_all is_plain_byte (joined (map (put old new) cs)))
+          (and_from (ends_with ◌==◌ (joined (map (put old new) cs)) (10 ∷ [])) (nat_le (length (joined (map (put old new) cs))) (line_limit + 1)) d (le-leb (length (joined (map (put old new) cs))) (line_limit + 1) (h refl)))
           (plain_put old new (name_plain limit new name) cs s.1)
 
   -- each line with a replaced word is short enough
   abbrev pub AreShort : List (List Chunk) → Type 0
-  AreShort ls = (i : ℕ) (l : List Chunk) → slice_get ls i ≡ Some l → list_any (is_old old) l ≡ true → length (joined (map (put old new) l)) ≤ 133
+  AreShort ls = (i : ℕ) (l : List Chunk) → slice_get ls i ≡ Some l → list_any (is_old old) l ≡ true → length (joined (map (put old new) l)) ≤ (line_limit + 1)
 
   -- plain lines are plain after the replacing
   lines_plain : (ls : List (List Chunk)) → AreFineLines ls → list_all is_plain_line (map joined ls) ≡ true → AreShort ls → list_all is_plain_line (map joined (map (map (put old new)) ls)) ≡ true

@@ -1,6 +1,6 @@
 -- Lines that are too long, by a table of the lengths of lines.
 use Rattle.std.specs.Prelude.{ℕ, Bool, ◌+◌, ◌-◌, nat_lt, List, [], ◌∷◌, unwrap_or, slice_get, if◌then◌else◌}
-use Rattle.ftn_tree.specs.Breaks.{line_limit}
+use Rattle.ftn_base.specs.Limits.{line_limit}
 
 -- the line has more than 132 bytes and its LF, the lines counted from 1
 abbrev pub is_long_in : List ℕ → ℕ → Bool

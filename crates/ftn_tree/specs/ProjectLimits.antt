@@ -1,23 +1,9 @@
--- How large a project may be. The limits are this project's own.
-use Rattle.std.specs.Prelude.{ℕ, ◌+◌, ◌≤◌, nat_lt, if◌then◌else◌, List, [], ◌∷◌, length, Option, Some, None}
+-- The limit that a project passes first. The limits are this project's own.
+use Rattle.std.specs.Prelude.{ℕ, ◌+◌, nat_lt, if◌then◌else◌, List, [], ◌∷◌, length, Option, Some, None}
 use Rattle.ftn_base.specs.Files.{File}
-use Rattle.ftn_tool.specs.declared.limit.Limit.{Limit}
-use Rattle.ftn_tool.specs.declared.limit.Limit.TheVariants as limits
-
--- how many files a project has at the most
-abbrev pub most_files : ℕ
-most_files = 4096
-
--- how many bytes a file has at the most
-abbrev pub most_file_bytes : ℕ
-most_file_bytes = 4194304
-
--- how many bytes all files of a project have at the most
-abbrev pub most_project_bytes : ℕ
-most_project_bytes = 16777216
-
-abbrev pub IsSmall : File → Type 0
-IsSmall file = length file.1 ≤ most_file_bytes
+use Rattle.ftn_base.specs.Limits.{most_files, most_file_bytes, most_project_bytes}
+use Rattle.ftn_base.specs.declared.limits.Limit.{Limit}
+use Rattle.ftn_base.specs.declared.limits.Limit.TheVariants as limits
 
 -- the first limit of bytes that these files pass, one after another, where that many bytes come before them
 abbrev pub past_bytes : ℕ → List File → Option Limit
