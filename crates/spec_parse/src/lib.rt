@@ -4,12 +4,12 @@
 mod attribute_statements;
 mod attributes;
 mod bounds;
+mod colons;
 mod common;
 mod data;
 mod declare;
 mod endings;
 mod implicits;
-mod list;
 mod names;
 mod rows;
 mod specifications;
