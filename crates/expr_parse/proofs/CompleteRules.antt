@@ -19,7 +19,7 @@ use Rattle.expr_parse.specs.Input.{Input, Reader, ◌>>=◌, ◌>>◌, pure, aft
 use Rattle.expr_parse.specs.Combinators.{◌<$>◌, each_after_comma_from}
 use Rattle.expr_parse.specs.Reading as reading
 use Rattle.expr_parse.proofs.Pieces.{Took, bind_is}
-use Rattle.expr_parse.proofs.Inverse.{expr_of, args_back, exprs_of, part_back, end_back}
+use Rattle.ftn_tree.proofs.Inverse.{expr_of, args_back, exprs_of, part_back, end_back}
 use Rattle.expr_parse.proofs.Takes.{split_took, took_nothing, no_longer, Seen, took_mark, took_mark_at}
 use Rattle.expr_parse.proofs.Stops.{Stops, stops_close, stops_comma, stops_colon, close_no_colon, close_no_comma, comma_no_colon, colon_no_close, begun_no_close, begun_no_colon}
 

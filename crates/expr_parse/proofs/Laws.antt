@@ -20,7 +20,7 @@ use Rattle.expr_parse.specs.Reading as reading
 use Rattle.expr_parse.proofs.Pieces.{Piece, Took, begins}
 use Rattle.expr_parse.proofs.AllKinds.{within}
 use Rattle.expr_parse.proofs.Operands.{goes_on, opens, name_first, ReadsExpressions, ReadsReferences, expression_piece, reference_piece}
-use Rattle.expr_parse.proofs.Inverse.{expr_of, args_tree, part_tree, same_expr, tree_refer}
+use Rattle.ftn_tree.proofs.Inverse.{expr_of, args_tree, part_tree, same_expr, tree_refer}
 use Rattle.expr_parse.proofs.Stops.{Stops, looser}
 use Rattle.expr_parse.proofs.SoundLevels.{sound_expression, sound_reference}
 use Rattle.expr_parse.proofs.CompleteRules.{complete_named}

@@ -15,7 +15,7 @@ use Rattle.ftn_tree.specs.Grammar.{IsNumber, truth_lexeme, Spells}
 use Rattle.expr_parse.specs.Input.{Input, after}
 use Rattle.expr_parse.specs.Reading as reading
 use Rattle.expr_parse.proofs.Pieces.{Took}
-use Rattle.expr_parse.proofs.Inverse.{tree_whole, tree_truth, tree_quoted}
+use Rattle.ftn_tree.proofs.Inverse.{tree_whole, tree_truth, tree_quoted}
 use Rattle.expr_parse.proofs.Takes.{retold, token_took, given}
 
 -- ---- constants

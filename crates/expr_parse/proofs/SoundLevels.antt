@@ -16,7 +16,7 @@ use Rattle.expr_parse.specs.Reading as reading
 use Rattle.expr_parse.proofs.Pieces.{Took, bind_some, some_pair, took_both}
 use Rattle.expr_parse.proofs.Lists as lists
 use Rattle.expr_parse.proofs.Chains.{chained_last}
-use Rattle.expr_parse.proofs.Inverse.{tree_unary, tree_binary}
+use Rattle.ftn_tree.proofs.Inverse.{tree_unary, tree_binary}
 use Rattle.expr_parse.proofs.Takes.{retold, took_token, token_took, given}
 use Rattle.expr_parse.proofs.Bindings.{power, right_some, each_sign, operator_is, sign_is}
 use Rattle.expr_parse.proofs.SoundRules.{Upto, IsSound, took_expr, sound_primary, sound_named}

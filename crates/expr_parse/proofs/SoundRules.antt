@@ -18,7 +18,7 @@ use Rattle.expr_parse.specs.Reading as reading
 use Rattle.expr_parse.proofs.Pieces.{Took, bind_some, some_pair, took_both}
 use Rattle.expr_parse.proofs.Tokens.{mark_piece, bare_made}
 use Rattle.expr_parse.proofs.Lists as lists
-use Rattle.expr_parse.proofs.Inverse.{end_tree, args_tree, list_tree, part_tree, section_tree, tree_paren, tree_refer, tree_part}
+use Rattle.ftn_tree.proofs.Inverse.{end_tree, args_tree, list_tree, part_tree, section_tree, tree_paren, tree_refer, tree_part}
 use Rattle.expr_parse.proofs.Takes.{retold, none_took, given}
 use Rattle.expr_parse.proofs.Sound.{sound_constant, spelled}
 

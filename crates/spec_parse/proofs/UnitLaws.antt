@@ -10,7 +10,7 @@ use Rattle.ftn_tree.specs.Phrases.{Phrase, ◌·◌, word, name, commas, maybe, 
 use Rattle.expr_parse.specs.Input.{Input, input}
 use Rattle.expr_parse.proofs.Tokens.{is_same}
 use Rattle.ftn_tree.specs.UnitForms as form_of
-use Rattle.spec_parse.specs.steps.Names.{names, dummies}
+use Rattle.spec_parse.specs.steps.Names.{dummies}
 use Rattle.spec_parse.specs.declared.rows.Row.TheVariants as row
 use Rattle.spec_parse.specs.steps.Rows.{find_row, row_at_front}
 use Rattle.spec_parse.specs.steps.Units.{block_data, block_data_of, program, module_unit, module_procedure, names_procedures, module_row, subroutine, subroutine_parts, contains, interface}
@@ -54,7 +54,7 @@ unfolding module_unit out-Form denote.Hole.Carrier.out
 sound_unit = row_sound parts.module_parts form.Module (λ n at tokens says. says)
 
 sound_procedure : Sound module_procedure
-unfolding module_procedure names out-Form denote.Hole.Carrier.out
+unfolding module_procedure out-Form denote.Hole.Carrier.out
 sound_procedure = row_sound parts.procedure_parts form.ModuleProcedure (λ all at tokens says. says)
 
 pub sound_module : Sound module_row
@@ -83,7 +83,7 @@ unfolding module_row module_unit
 complete_module n at tokens says = choose_other by_third module_procedure module_unit (input at tokens) (no_third n at tokens says) ∙ row_complete parts.module_parts form.Module n at tokens says
 
 pub complete_procedure : (all : List ℕ) (at : ℕ) (tokens : List Token) → (word (codes "module") · word (codes "procedure") · commas name all) at tokens → GivesForm module_row at tokens (form.ModuleProcedure all)
-unfolding module_row module_procedure names
+unfolding module_row module_procedure
 complete_procedure all at tokens says =
     choose_one by_third module_procedure module_unit (input at tokens) (third_is_name all at tokens says) ∙ row_complete parts.procedure_parts form.ModuleProcedure all at tokens says
 

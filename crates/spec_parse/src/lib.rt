@@ -4,13 +4,13 @@
 mod attribute_statements;
 mod attributes;
 mod bounds;
+mod colons;
 mod common;
 mod data;
 mod declare;
 mod endings;
 mod implicits;
 mod laws;
-mod list;
 mod names;
 mod rows;
 mod specifications;

@@ -4,8 +4,8 @@ ghost use Rattle.std.specs.Prelude.{◌≡◌};
 ghost use Rattle.expr_parse.specs.Input.{Gives};
 ghost use Rattle.spec_parse.specs.steps.Units as spec;
 
-use crate::names::{read_dummies, read_names};
-use expr_parse::{Cursor, Misfit};
+use crate::names::read_dummies;
+use expr_parse::{Cursor, Misfit, read_names};
 use ftn_tree::{Form, Lexeme, Token, TypeSpec};
 use std::alloc::Global;
 

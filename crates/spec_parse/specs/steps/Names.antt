@@ -2,10 +2,7 @@
 use Rattle.std.specs.Prelude.{ℕ, List}
 use Rattle.ftn_tree.specs.declared.lexeme.Lexeme.TheVariants as lexeme
 use Rattle.expr_parse.specs.Input.{Reader, ◌>>=◌, ◌>>◌, pure, expect, name}
-use Rattle.expr_parse.specs.Combinators.{separated, list_in_parens}
-
-unfoldable pub names : Reader (List ℕ)
-names = separated name
+use Rattle.expr_parse.specs.Combinators.{list_in_parens}
 
 unfoldable pub dummies : Reader (List ℕ)
 dummies = list_in_parens name
