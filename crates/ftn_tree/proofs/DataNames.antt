@@ -56,7 +56,7 @@ subscripts_named None = none_named
 subscripts_named (Some subscripts) = parens_named (commas_named expr_named subscripts)
 
 designator_named : {letters : Bool} (wanted : Role) (d : Designator) → Names letters (text.designator d) (spec.in_designator wanted d)
-designator_named wanted d = both (name_named (mention d.name wanted)) (subscripts_named d.subscripts)
+designator_named wanted d = both (name_named (mention_with d.name wanted (spec.where_written role.Parenthesised d.subscripts))) (subscripts_named d.subscripts)
 
 set_named : {letters : Bool} (designators : List Designator) → Names letters (text.equivalence_set designators) (spec.in_designators role.Tied designators)
 set_named designators = provided_named _ (parens_named (commas_named (designator_named role.Tied) designators))

@@ -34,7 +34,8 @@ pub use parts::{
 };
 pub use piece::{PieceKind, Spot};
 pub use table::{
-    Bound, Entity, EntityKind, Extent, Occurrence, Scope, ScopeKind, StatementId, TableFault, Tables,
+    Bound, Entity, EntityKind, Extent, Occurrence, Scope, ScopeKind, StatementId, TableFault,
+    Tables,
 };
 pub use token::{Token, TokenKind, Tokens};
 pub use unit::{Arm, Block, FileTree, Statement, Unit};
