@@ -1,3 +1,4 @@
 pub mod ExpressionLemmas
 pub mod AssignmentLaws
 pub mod OperatorLaws
+pub mod AroundLemmas
