@@ -17,13 +17,13 @@ chosen true true one other low high = refl
 chosen true false one other low high = absurd (true≢false (sym high))
 chosen false b one other low high = absurd (true≢false (sym low))
 
-no_more : (m n : ℕ) → m ≤ n → nat_le m n ≡ true
+pub no_more : (m n : ℕ) → m ≤ n → nat_le m n ≡ true
 no_more m n low = grind (arith, nat_tests)
 
 -- a unit's own opening comes after those of the units inside
-rolled : (k : ℕ) (layer : Unit-F UnitTree) → nat_le layer.opening k ≡ true → nat_le k layer.ending ≡ true
+pub around_unit : (k : ℕ) (layer : Unit-F UnitTree) → nat_le layer.opening k ≡ true → nat_le k layer.ending ≡ true
     → around k (roll-Unit layer) ≡ units_around layer.inner k ++ layer.opening ∷ []
-rolled k layer low high =
+around_unit k layer low high =
     fold-roll-Unit (List ℕ) (around_step k) layer
     ∙ chosen (nat_le layer.opening k) (nat_le k layer.ending) (flat_map (λ (inner : List ℕ). inner) (map (around k) layer.inner) ++ layer.opening ∷ []) [] low high
     ∙ ap (λ (l : List ℕ). l ++ layer.opening ∷ []) (of_all k layer.inner)
@@ -33,4 +33,4 @@ pub pushed : (k : ℕ) (here : UnitTree) (old one all : List ℕ) → (out-Unit 
 pushed k here old one all low high first last =
     let layer = out-Unit here in
     last ∙ ap (λ (l : List ℕ). l ++ layer.opening ∷ []) first ∙ append_assoc old (units_around layer.inner k) (layer.opening ∷ [])
-    ∙ ap (λ (l : List ℕ). old ++ l) (sym (ap (around k) (sym (roll-out-Unit here)) ∙ rolled k layer (no_more layer.opening k low) (no_more k layer.ending high)))
+    ∙ ap (λ (l : List ℕ). old ++ l) (sym (ap (around k) (sym (roll-out-Unit here)) ∙ around_unit k layer (no_more layer.opening k low) (no_more k layer.ending high)))
