@@ -9,3 +9,5 @@ pub mod PartNames
 pub mod DataNames
 pub mod UnitNames
 pub mod StatementNames
+pub mod AroundLemmas
+pub mod UnitNumbers

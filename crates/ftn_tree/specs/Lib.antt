@@ -28,6 +28,7 @@ pub mod Marks
 pub mod Regions
 pub mod Nesting
 pub mod NestFaults
+pub mod Around
 pub mod FileFaults
 pub mod RowNames
 pub mod ProjectFaults

@@ -1,6 +1,7 @@
 //! Tokens, trees and tables of Fortran 90 source text, and the definitions that readers of it meet.
 #![tactic(auto)]
 
+mod around;
 mod expr;
 mod form;
 mod laws;

@@ -3,6 +3,7 @@ pub mod Orders
 pub mod Levels
 pub mod Steps
 pub mod Complete
+pub mod Heads
 pub mod NoArms
 pub mod Built
 pub mod Rows
@@ -20,3 +21,6 @@ pub mod OneTree
 pub mod OneFault
 pub mod OneBreak
 pub mod OneText
+pub mod Counts
+pub mod HeldTrees
+pub mod Tiles

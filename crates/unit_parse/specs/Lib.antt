@@ -5,3 +5,4 @@ pub mod Levels
 pub mod Taking
 pub mod Parsing
 pub mod steps
+pub mod Tiling

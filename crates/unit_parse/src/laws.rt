@@ -9,6 +9,7 @@ ghost use Rattle.ftn_tree.specs.ExecutableForms.{is_executable};
 ghost use Rattle.ftn_tree.specs.FileFaults.{is_statement};
 ghost use Rattle.ftn_tree.specs.Specifications.{is_specification};
 ghost use Rattle.unit_parse.specs.Decided.{HasOneAnswer, NestingIsDecided, TextHasOneAnswer};
+ghost use Rattle.unit_parse.specs.Tiling.{UnitsTile};
 
 /// The law that no statement is both an executable one and another one: no tokens have forms of both kinds (2.1).
 pub fn statements_are_apart()
@@ -35,4 +36,10 @@ pub fn one_answer_per_file()
 /// are among its faults.
 pub fn one_answer_per_text()
     ensures { (edition : Edition) (text : List ℕ) → TextHasOneAnswer edition text }
+{}
+
+/// The law that the units of a file hold each of its statements once, and no other number, and that a unit is around each statement
+/// (2.2).
+pub fn units_hold_each_statement_once()
+    ensures { UnitsTile }
 {}

@@ -15,6 +15,6 @@ pub use fault::{NestFault, ParseFault};
 pub use files::parse;
 pub use laws::{
     nesting_is_decided, one_answer_per_file, one_answer_per_text, one_statement,
-    statements_are_apart,
+    statements_are_apart, units_hold_each_statement_once,
 };
 pub use nesting::{Nesting, nest};
