@@ -39,8 +39,7 @@ fn read_whole_executable(alloc: Global, cursor: &mut Cursor<'_>) -> Result<Form,
     ensures { Gives (spec.whole_executable cursor.old) result cursor.new }
 {
     let form = read_executable(alloc, cursor)?;
-    cursor.finish()?;
-    Ok(form)
+    cursor.finish_with(form)
 }
 
 #[tactic(auto, unfolding(crate::specs::Executables::executable))]

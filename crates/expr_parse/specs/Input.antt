@@ -111,6 +111,10 @@ name = expect lexeme.Word
 unfoldable pub finish : Reader (Unit {0})
 finish i = if is_done i then Some (tt, i) else None
 
+-- that value, where no token is left
+abbrev pub finish_with : {A : Type 0} → A → Reader A
+finish_with a = finish >> pure a
+
 -- what a function that reads ensures: the reader's outcome, unless memory fails
 abbrev pub Gives : {A : Type 0} → Outcome A → Result A Misfit → Input → Type 0
 Gives outcome (Ok a) new = outcome ≡ Some (a, new)

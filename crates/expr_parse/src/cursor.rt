@@ -194,4 +194,12 @@ impl<'a> Cursor<'a> {
             Err(Misfit::NoFit)
         }
     }
+
+    /// Gives what was read, if no token is left.
+    pub fn finish_with<T: Drop>(&mut self, found: T) -> Result<T, Misfit>
+        ensures { Gives (spec.finish_with found self.old) result self.new }
+    {
+        self.finish()?;
+        Ok(found)
+    }
 }

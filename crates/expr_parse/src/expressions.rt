@@ -118,6 +118,5 @@ fn whole_expression(alloc: Global, cursor: &mut Cursor<'_>) -> Result<Expr, Misf
     ensures { Gives (spec.whole_expression cursor.old) result cursor.new }
 {
     let found = read_expression(alloc, cursor)?;
-    cursor.finish()?;
-    Ok(found)
+    cursor.finish_with(found)
 }

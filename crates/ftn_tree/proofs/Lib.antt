@@ -11,3 +11,5 @@ pub mod UnitNames
 pub mod StatementNames
 pub mod AroundLemmas
 pub mod UnitNumbers
+pub mod LineLaws
+pub mod PhraseLaws

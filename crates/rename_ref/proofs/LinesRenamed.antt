@@ -1,13 +1,15 @@
 -- The lines of a text after a word is replaced by a name.
 use Rattle.std.proofs.Common.{◌≡◌, ℕ, zero, suc, ◌+◌, ◌-◌, ◌≤◌, Bool, true, false, cond, not, ◌&&◌, ◌||◌, ◌==◌, nat_le, nat_lt, ◌⊎◌, inl, inr, List, [], ◌∷◌, ◌++◌, map, length, take, slice_get, Some, None, refl, sym, ap, ◌∙◌, if◌then◌else◌, arith, append-nil, append_assoc, bytes_eq}
 use Rattle.std.specs.List.{list_all, list_any, ends_with}
-use Rattle.std.proofs.lemmas.Bool.{and_parts, and_from, or_from, or_cases, or_parts, eqb-true, le-leb}
+use Rattle.std.proofs.lemmas.Bool.{and_parts, and_from, or_from, or_cases, or_parts, eqb-true, le-leb, not-true}
 use Rattle.std.proofs.lemmas.Bool.Decides.{nat_tests, Decides-eqb}
 use Rattle.std.proofs.lemmas.Slice.Eq.{ends_is}
 use Rattle.ftn_base.specs.Letters.{is_letter, is_digit, is_name_byte, folded}
 use Rattle.ftn_base.specs.Names.{is_name}
+use Rattle.ftn_base.proofs.NameLemmas.{letter_name_byte}
 use Rattle.std.specs.List.{onto_first}
 use Rattle.ftn_base.specs.Limits.{line_limit}
+use Rattle.std.proofs.lemmas.Option.{same_Some}
 use Rattle.ftn_tree.specs.Lines.{is_line_feed}
 use Rattle.free_scan.specs.Lines.{lines, is_plain_byte, is_plain_line, is_plain}
 use Rattle.ftn_tree.specs.Pieces.{is_pair, is_mark}
@@ -17,7 +19,7 @@ use Rattle.free_scan.specs.declared.first_form.token.PieceKind.{PieceKind}
 use Rattle.free_scan.specs.declared.first_form.token.PieceKind.TheVariants.{Blank, Comment, LineEnd, Word, Whole, Mark}
 use Rattle.ftn_tree.specs.declared.token.Token.{Token}
 use Rattle.rename_ref.proofs.Alls.{all_weaken, all_append_parts, all_append}
-use Rattle.rename_ref.proofs.Fronts.{letter_name_byte, in_comment, front_is, FrontIs, line_end, blank, comment, word, whole, one, front_some, mark_is, run_at, no_pair, two_marks, found, same_piece}
+use Rattle.rename_ref.proofs.Fronts.{in_comment, front_is, FrontIs, line_end, blank, comment, word, whole, one, front_some, mark_is, run_at, no_pair, two_marks, found, same_piece}
 use Rattle.rename_ref.proofs.Chunks.{is_word_piece, Chunk, joined, AreFronts, is_old, tokens_where, token_at}
 use Rattle.rename_ref.proofs.PiecesRenamed.{put}
 use Rattle.rename_ref.proofs.TokensRenamed.{map_onto_first}
@@ -146,14 +148,10 @@ lines_inside b [] u a = let e : is_line_feed b ≡ false = feed b (and_parts (in
         go false h = refl
 lines_inside b (c ∷ w) u a =
     let s = and_parts (in_comment b) (list_all in_comment (c ∷ w)) a in
-    let e : is_line_feed b ≡ false = feed (is_line_feed b) s.0 in
+    let e : is_line_feed b ≡ false = not-true (is_line_feed b) s.0 in
     let r : lines ((c ∷ w) ++ u) ≡ onto_line (c ∷ w) (lines u) = lines_inside c w u s.1 in
     pick e ∙ ap (onto_first b) r ∙ onto_more b (c ∷ w) (lines u)
   where
-    feed : (t : Bool) → not t ≡ true → t ≡ false
-    feed true h = absurd cc
-    feed false h = refl
-
     pick : is_line_feed b ≡ false → lines (b ∷ ((c ∷ w) ++ u)) ≡ onto_first b (lines ((c ∷ w) ++ u))
     pick e = ap (λ (t : Bool). if t then (b ∷ []) ∷ lines ((c ∷ w) ++ u) else onto_first b (lines ((c ∷ w) ++ u))) e
 
@@ -332,15 +330,11 @@ module _ (old new : List ℕ) (limit : ℕ) (name : is_name limit new ≡ true) 
 
 -- ---- the lines of tokens
 
--- one line that is there is one line
-some_line : (a b : List Chunk) → Some a ≡ Some b → a ≡ b
-some_line a b e = cc
-
 -- a replaced word on a line is the piece in front, or stands on that line of the rest
 get_onto : (old : List ℕ) (c : Chunk) (ls : List (List Chunk)) (i : ℕ) (l : List Chunk) → slice_get (onto_first c ls) i ≡ Some l → list_any (is_old old) l ≡ true
     → ((is_old old c ≡ true) × (i ≡ 0)) ⊎ ((m : List Chunk) × (slice_get ls i ≡ Some m) × (list_any (is_old old) m ≡ true))
 get_onto old c [] zero l e h =
-    let d : c ∷ [] ≡ l = some_line (c ∷ []) l e in
+    let d : c ∷ [] ≡ l = same_Some (c ∷ []) l e in
     let k : (is_old old c || false) ≡ true = ap (list_any (is_old old)) d ∙ h in
     go (or_cases (is_old old c) false k)
   where
@@ -349,7 +343,7 @@ get_onto old c [] zero l e h =
     go (inr o) = absurd cc
 get_onto old c [] (suc i) l e h = absurd cc
 get_onto old c (m ∷ ls) zero l e h =
-    let d : c ∷ m ≡ l = some_line (c ∷ m) l e in
+    let d : c ∷ m ≡ l = same_Some (c ∷ m) l e in
     let k : (is_old old c || list_any (is_old old) m) ≡ true = ap (list_any (is_old old)) d ∙ h in
     go (or_cases (is_old old c) (list_any (is_old old) m) k)
   where
@@ -403,7 +397,7 @@ token_on_line old q at line (c ∷ cs) a i l e h =
 
     go : (t : Bool) → is_line_end c.0 ≡ t → (i : ℕ) → slice_get (if t then (c ∷ []) ∷ chunk_lines cs else onto_first c (chunk_lines cs)) i ≡ Some l → (is_old old c ≡ true → q line ≡ true) → Rest → q (line + i) ≡ true
     go true k zero e here rest =
-        let d : (is_old old c || false) ≡ true = ap (list_any (is_old old)) (some_line (c ∷ []) l e) ∙ h in
+        let d : (is_old old c || false) ≡ true = ap (list_any (is_old old)) (same_Some (c ∷ []) l e) ∙ h in
         absurd (only (or_cases (is_old old c) false d))
       where
         only : (is_old old c ≡ true) ⊎ (false ≡ true) → ⊥

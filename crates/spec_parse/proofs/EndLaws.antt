@@ -16,7 +16,7 @@ use Rattle.expr_parse.specs.Combinators.{◌<$>◌}
 use Rattle.spec_parse.specs.steps.Endings.{ending, parted_end, end_row}
 use Rattle.spec_parse.specs.declared.rows.Row.TheVariants as row
 use Rattle.spec_parse.specs.steps.Rows.{find_row, attribute_row, row_at_front}
-use Rattle.spec_parse.proofs.Regroup.{to_right, to_left, drop_end, add_end}
+use Rattle.ftn_tree.proofs.PhraseLaws.{to_right, to_left, drop_end, add_end}
 use Rattle.spec_parse.proofs.EndPieces.{spelled, ending_parts, ending_of, ending_piece, parted_parts}
 use Rattle.spec_parse.proofs.FirstWords.{alone_leads, phrase_leads}
 use Rattle.spec_parse.proofs.Seen.{Starts, starts_word, starts_first, shows, hides}

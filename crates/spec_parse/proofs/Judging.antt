@@ -1,6 +1,7 @@
 -- What is answered of whole statements.
 use Rattle.std.proofs.Common.{◌≡◌, refl, sym, ◌∙◌, ap, subst, ℕ, ◌+◌, Bool, true, false, List, [], length, Some, None, Ok, Err, if◌then◌else◌}
 use Rattle.std.specs.Prelude.{IsTrue, ◌↔◌}
+use Rattle.std.proofs.lemmas.Option.{some_pair_parts}
 use Rattle.ftn_tree.specs.declared.token.Token.{Token}
 use Rattle.ftn_tree.specs.declared.form.Form.{Form}
 use Rattle.ftn_tree.specs.Assignments.{IsAssignment}
@@ -11,7 +12,6 @@ use Rattle.expr_parse.specs.declared.fault.StatementFault.TheVariants.{NotAState
 use Rattle.expr_parse.specs.Input.{Input, input}
 use Rattle.expr_parse.specs.Exact.{FitsNone, IsExact, misfit}
 use Rattle.expr_parse.proofs.Deep.{decided_deep, decided_shallow}
-use Rattle.expr_parse.proofs.Pieces.{some_pair}
 use Rattle.spec_parse.specs.steps.Rows.{statement}
 use Rattle.spec_parse.proofs.StatementLaws.{statement_sound, statement_reads}
 
@@ -48,7 +48,7 @@ module _ (at : ℕ) (tokens : List Token) (cursor : Input) (all : List Token) (d
       let gives = sym (ap statement begins_at) ∙ read in (
         shallow e,
         (no_assignment other, statement_sound at tokens form j gives),
-        λ found says. (some_pair found form (input (at + length tokens) []) j (sym (statement_reads found at tokens says.1) ∙ gives)).0,
+        λ found says. (some_pair_parts found form (input (at + length tokens) []) j (sym (statement_reads found at tokens says.1) ∙ gives)).0,
       )
 
   pub answer_misfit : (fault : StatementFault) → deep ≡ false → statement cursor ≡ None → fault ≡ misfit all → IsExact is_specification at tokens (Err fault)

@@ -1,5 +1,6 @@
 -- The statements that begin program units, procedures and interface blocks are read as they are written.
 use Rattle.std.proofs.Common.{◌≡◌, refl, sym, ◌∙◌, ap, subst, ℕ, Bool, true, false, ◌&&◌, List, [], ◌∷◌, ◌++◌, Option, Some, codes}
+use Rattle.std.proofs.lemmas.Bool.{and_from}
 use denote.Hole.Carrier
 use Rattle.ftn_tree.specs.declared.token.Token.{Token}
 use Rattle.ftn_tree.specs.declared.form.Form.{Form, out-Form}
@@ -14,7 +15,7 @@ use Rattle.spec_parse.specs.steps.Names.{dummies}
 use Rattle.spec_parse.specs.declared.rows.Row.TheVariants as row
 use Rattle.spec_parse.specs.steps.Rows.{find_row, row_at_front}
 use Rattle.spec_parse.specs.steps.Units.{block_data, block_data_of, program, module_unit, module_procedure, names_procedures, module_row, subroutine, subroutine_parts, contains, interface}
-use Rattle.spec_parse.proofs.Regroup.{to_right, led_by}
+use Rattle.ftn_tree.proofs.PhraseLaws.{to_right, led_by}
 use Rattle.spec_parse.proofs.FirstWords.{phrase_leads}
 use Rattle.spec_parse.proofs.UnitPieces as parts
 use Rattle.spec_parse.proofs.Wholes.{Sound, GivesForm, row_sound, row_complete, choose_one, choose_other, chosen_sound}
@@ -61,17 +62,13 @@ pub sound_module : Sound module_row
 unfolding module_row
 sound_module = chosen_sound by_third module_procedure module_unit sound_procedure sound_unit
 
-both : (a b : Bool) → a ≡ true → b ≡ true → (a && b) ≡ true
-both true b e f = f
-both false b e f = e
-
 third_is_name : (all : List ℕ) (at : ℕ) (tokens : List Token) → (word (codes "module") · word (codes "procedure") · commas name all) at tokens → names_procedures tokens ≡ true
 unfolding names_procedures
 third_is_name [] at tokens (one, after, split, says, (two, last, split_after, says_two, never)) = absurd never
 third_is_name (n ∷ all) at tokens (one, after, split, (first, is_one, is), (two, last, split_after, (second, is_two, is_second), (three, rest, split_last, (third, is_three, (is_at, is_third)), says))) =
     let all_tokens = led_by first one after (second ∷ third ∷ rest) tokens split is_one (led_by second two last (third ∷ rest) after split_after is_two (led_by third three rest rest last split_last is_three refl)) in
     subst (λ tokens. names_procedures tokens ≡ true) (sym all_tokens)
-    (both (is_word (codes "procedure") second) (same_lexeme (lexeme_of third) Word) is_second (is_same (lexeme_of third) Word is_third))
+    (and_from (is_word (codes "procedure") second) (same_lexeme (lexeme_of third) Word) is_second (is_same (lexeme_of third) Word is_third))
 
 no_third : (n at : ℕ) (tokens : List Token) → (word (codes "module") · name n) at tokens → names_procedures tokens ≡ false
 unfolding names_procedures

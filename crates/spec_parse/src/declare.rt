@@ -93,13 +93,24 @@ fn is_declaration(
     (colons || attributes.is_empty()) && may_all_stand(entities, is_character(ty), colons)
 }
 
+/// The attributes, and the entities with whether `::` stands before them.
+fn read_declared(
+    alloc: Global,
+    cursor: &mut Cursor<'_>,
+) -> Result<(Items<Attribute>, (bool, Items<EntityDecl>)), Misfit>
+    ensures { Gives (spec.declared cursor.old) result cursor.new }
+{
+    let attributes = read_attributes(alloc, cursor)?;
+    let entities = read_entities(alloc, cursor)?;
+    Ok((attributes, entities))
+}
+
 /// Reads what follows the type in a type declaration (5.1).
 #[tactic(auto, unfolding(crate::specs::steps::Declaring::declare_from))]
 pub fn declare_from(alloc: Global, cursor: &mut Cursor<'_>, ty: TypeSpec) -> Result<Form, Misfit>
     ensures { Gives (spec.declare_from ty cursor.old) result cursor.new }
 {
-    let attributes = read_attributes(alloc, cursor)?;
-    let (colons, entities) = read_entities(alloc, cursor)?;
+    let (attributes, (colons, entities)) = read_declared(alloc, cursor)?;
     if !is_declaration(&ty, attributes.as_slice(), colons, entities.as_slice()) {
         return Err(Misfit::NoFit);
     }

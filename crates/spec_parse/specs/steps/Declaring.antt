@@ -42,6 +42,10 @@ may_follow ty parts = is_declaration ty parts.0 parts.1.0 parts.1.1
 abbrev pub declaration_of : TypeSpec → Parts → Form
 declaration_of ty parts = form.Declare ty parts.0 parts.1.0 parts.1.1
 
+-- the attributes, and the entities with whether `::` stands before them
+abbrev pub declared : Reader Parts
+declared = each_after_comma attribute ⊗ after_colons entity
+
 -- the rest of a declaration of that type
 unfoldable pub declare_from : TypeSpec → Reader Form
-declare_from ty = declaration_of ty <$> checked (may_follow ty) (each_after_comma attribute ⊗ after_colons entity)
+declare_from ty = declaration_of ty <$> checked (may_follow ty) declared

@@ -1,10 +1,12 @@
--- Phrases of the same tokens.
-use Rattle.std.proofs.Common.{◌≡◌, refl, sym, ◌∙◌, ap, subst, arith, ℕ, ◌+◌, List, [], ◌∷◌, ◌++◌, length, append_assoc}
+-- Phrases one after the other, of the same tokens.
+use Rattle.std.proofs.Common.{◌≡◌, refl, sym, ◌∙◌, ap, subst, arith, ℕ, ◌+◌, List, [], ◌∷◌, ◌++◌, length, append_assoc, add-zero}
 use Rattle.std.proofs.lemmas.List.{append-nil}
 use Rattle.std.proofs.lemmas.Grind.{common_steps}
 use Rattle.ftn_tree.specs.declared.token.Token.{Token}
 use Rattle.ftn_tree.specs.Phrases.{Phrase, ◌·◌, nothing}
-use Rattle.expr_parse.proofs.Pieces.{placed, plus_none}
+
+pub placed : (at : ℕ) (one other : List Token) → (at + length one) + length other ≡ at + length (one ++ other)
+placed at one other = grind (arith, common_steps)
 
 -- where three phrases follow one another
 pub to_right : (one other third : Phrase) (at : ℕ) (tokens : List Token) → ((one · other) · third) at tokens → (one · (other · third)) at tokens
@@ -28,10 +30,10 @@ to_left one other third at tokens (before, both, split, says_one, (middle, after
 pub drop_none : (phrase : Phrase) (at : ℕ) (tokens : List Token) → (nothing · phrase) at tokens → phrase at tokens
 drop_none phrase at tokens (before, after, split, none, says) =
     subst (λ tokens. phrase at tokens) (sym (split ∙ ap (λ before. before ++ after) none))
-    (subst (λ place. phrase place after) (ap (λ before. at + length before) none ∙ plus_none at) says)
+    (subst (λ place. phrase place after) (ap (λ before. at + length before) none ∙ add-zero at) says)
 
 pub add_none : (phrase : Phrase) (at : ℕ) (tokens : List Token) → phrase at tokens → (nothing · phrase) at tokens
-add_none phrase at tokens says = ([], tokens, refl, refl, subst (λ place. phrase place tokens) (sym (plus_none at)) says)
+add_none phrase at tokens says = ([], tokens, refl, refl, subst (λ place. phrase place tokens) (sym (add-zero at)) says)
 
 pub drop_end : (phrase : Phrase) (at : ℕ) (tokens : List Token) → (phrase · nothing) at tokens → phrase at tokens
 drop_end phrase at tokens (before, after, split, says, none) =
