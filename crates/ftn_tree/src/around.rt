@@ -7,9 +7,10 @@ use crate::unit::{FileTree, Unit};
 use ftn_base::NoMemory;
 
 impl FileTree {
-    /// Adds the openings of the units that hold that statement, the innermost first: of procedures, interface bodies, interface blocks
-    /// and the program unit. A unit holds its opening and its ending, too. The first unit, where it is no interface block, is the scoping
-    /// unit of the statement (Fortran 90, 2.2). It fails for want of memory.
+    /// Adds the openings of the units that hold the statement with that number, the innermost first: of procedures, interface bodies,
+    /// interface blocks and the program unit. Statements are numbered from 0 in their order, and a unit holds its opening and its
+    /// ending, too. The first unit, where it is no interface block, is the scoping unit of the statement (Fortran 90, 2.2). It fails
+    /// for want of memory.
     pub fn units_around(&self, statement: u32, into: &mut Vec<u32>) -> Result<(), NoMemory>
         ensures { OnOk result (into.new.items ≡ into.old.items ++ spec.units_around self.now.units statement) }
     {
