@@ -19,15 +19,15 @@ use Rattle.ftn_tree.specs.Lexemes.{lexeme_of, same_lexeme}
 use Rattle.ftn_tree.specs.Phrases.{Phrase, nothing, ◌·◌, word, word_at, mark, in_parens, commas}
 use Rattle.ftn_tree.specs.Grammar.{expr}
 use Rattle.ftn_tree.specs.ExecutableForms.{case_range, case_of, statement_at}
-use Rattle.expr_parse.specs.Input.{Input, input, Reader, Outcome, ◌>>=◌, ◌>>◌, pure, after, after_if, eat, sees, sees_word, expect_word, peek, first_lexeme}
-use Rattle.expr_parse.specs.Combinators.{◌<$>◌}
-use Rattle.expr_parse.specs.Reading.{expression}
+use Rattle.expr_parse.specs.steps.Input.{Input, input, Reader, Outcome, ◌>>=◌, ◌>>◌, pure, after, after_if, eat, sees, sees_word, expect_word, peek, first_lexeme}
+use Rattle.expr_parse.specs.steps.Combinators.{◌<$>◌}
+use Rattle.expr_parse.specs.steps.Reading.{expression}
 use Rattle.expr_parse.proofs.Pieces.{Piece, Took, Apart, begins, begins_after, bind_some, bind_is, took_both}
 use Rattle.expr_parse.proofs.AllKinds.{apart, within}
 use Rattle.expr_parse.proofs.Tokens.{only, is_same, word_piece, word_made, word_back, parens}
 use Rattle.expr_parse.proofs.Lists.{list, took_mark}
 use Rattle.expr_parse.proofs.Operands.{starts, goes_on, ReadsExpressions, expression_piece}
-use Rattle.exec_parse.specs.Constructs as read
+use Rattle.exec_parse.specs.steps.Constructs as read
 use Rattle.exec_parse.proofs.Wholes.{Sound, Reads, either_way, all_sound, all_complete, made_sound, made_complete, made_here, then_sound, then_complete, took_all}
 use Rattle.exec_parse.proofs.Words.{starts_alone, sees_own, took_word, open_no_word}
 

@@ -16,13 +16,13 @@ use Rattle.ftn_tree.specs.Assignments.{IsAssignment, is_assignment}
 use Rattle.ftn_tree.proofs.AssignmentLaws.{assignment_told, told_assignment}
 use Rattle.ftn_tree.specs.ExecutableForms.{condition, inner_from, comma_if, control, case_range, case_of, action_at, statement_at, executable_at, is_executable}
 use Rattle.ftn_tree.proofs.PhraseLaws.{to_right, drop_none}
-use Rattle.expr_parse.specs.Input.{Input, input, Reader, Outcome, sees_word, first_lexeme}
+use Rattle.expr_parse.specs.steps.Input.{Input, input, Reader, Outcome, sees_word, first_lexeme}
 use Rattle.expr_parse.proofs.Pieces.{begins, begins_after}
 use Rattle.expr_parse.proofs.Tokens.{only}
 use Rattle.expr_parse.proofs.Operands.{ReadsExpressions, ReadsReferences}
-use Rattle.exec_parse.specs.Actions as actions
-use Rattle.exec_parse.specs.Constructs as constructs
-use Rattle.exec_parse.specs.Executables as read
+use Rattle.exec_parse.specs.steps.Actions as actions
+use Rattle.exec_parse.specs.steps.Constructs as constructs
+use Rattle.exec_parse.specs.steps.Executables as read
 use Rattle.exec_parse.proofs.Wholes.{Sound, Reads, Complete, either_way}
 use Rattle.exec_parse.proofs.Words.{Starts, starts_with, starts_alone, no_colon, no_colon_alone, begins_otherwise, word_begins, Rows, first_row, rows_sound, differ, picked, passed}
 use Rattle.exec_parse.proofs.ActionLaws.{assignment_at, assignment_sound, assignment_complete, action_sound, action_complete}

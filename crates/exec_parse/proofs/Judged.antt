@@ -7,8 +7,8 @@ use Rattle.ftn_tree.specs.Phrases.{Phrase}
 use Rattle.ftn_tree.specs.Misfits.{IsDeep, is_outside}
 use Rattle.expr_parse.specs.declared.fault.StatementFault.{StatementFault}
 use Rattle.expr_parse.specs.declared.fault.StatementFault.TheVariants.{NotAStatement, OutOfProfile, TooDeep}
-use Rattle.expr_parse.specs.Input.{Input, input, Reader, Outcome, ◌>>◌, pure, is_done, done_at, finish}
-use Rattle.expr_parse.specs.Combinators.{to_the_end}
+use Rattle.expr_parse.specs.steps.Input.{Input, input, Reader, Outcome, ◌>>◌, pure, is_done, done_at, finish}
+use Rattle.expr_parse.specs.steps.Combinators.{to_the_end}
 use Rattle.expr_parse.specs.Exact.{FitsNone, IsExact, misfit}
 use Rattle.expr_parse.proofs.Pieces.{bind_some, bind_is}
 use Rattle.expr_parse.proofs.Deep.{decided_deep, decided_shallow}

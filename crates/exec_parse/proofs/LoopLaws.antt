@@ -19,16 +19,16 @@ use Rattle.ftn_tree.specs.Phrases.{Phrase, nothing, ◌·◌, word, word_at, mar
 use Rattle.ftn_tree.specs.Grammar.{expr}
 use Rattle.ftn_tree.specs.ExecutableForms.{condition, comma_if, label, control, statement_at}
 use Rattle.ftn_tree.proofs.PhraseLaws.{placed, add_none}
-use Rattle.expr_parse.specs.Input.{Input, input, Reader, Outcome, ◌>>=◌, ◌>>◌, pure, after_if, eat, sees, sees_word, expect_word, is_done, done_at, peek_second, first_lexeme}
-use Rattle.expr_parse.specs.Combinators.{◌<$>◌}
+use Rattle.expr_parse.specs.steps.Input.{Input, input, Reader, Outcome, ◌>>=◌, ◌>>◌, pure, after_if, eat, sees, sees_word, expect_word, is_done, done_at, peek_second, first_lexeme}
+use Rattle.expr_parse.specs.steps.Combinators.{◌<$>◌}
 use Rattle.expr_parse.proofs.Pieces.{Piece, Took, Apart, begins, begins_after, bind_some, bind_is, seq, option}
 use Rattle.expr_parse.proofs.AllKinds.{apart, within}
 use Rattle.expr_parse.proofs.Tokens.{only, is_same, word_piece, word_made, word_back, name_piece, after_word, after_mark, before_mark}
 use Rattle.expr_parse.proofs.Lists.{took_mark}
 use Rattle.expr_parse.proofs.Operands.{goes_on, ReadsExpressions, expression_piece}
 use Rattle.expr_parse.proofs.Ends.{nothing_left}
-use Rattle.exec_parse.specs.Lists as lists
-use Rattle.exec_parse.specs.Constructs as read
+use Rattle.exec_parse.specs.steps.Lists as lists
+use Rattle.exec_parse.specs.steps.Constructs as read
 use Rattle.exec_parse.proofs.Wholes.{Sound, Reads, either_way, all_sound, all_complete, made_sound, made_complete, made_here, then_sound, then_complete}
 use Rattle.exec_parse.proofs.Words.{starts_with, sees_own, second_is, no_colon, word_begins, begins_otherwise}
 use Rattle.exec_parse.proofs.ListPieces.{comma_expression, condition_piece}

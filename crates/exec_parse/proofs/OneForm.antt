@@ -3,7 +3,7 @@ use Rattle.std.proofs.Common.{◌≡◌, sym, ◌∙◌, ℕ, ◌+◌, List, [],
 use Rattle.ftn_tree.specs.declared.token.Token.{Token}
 use Rattle.ftn_tree.specs.declared.form.Form.{Form}
 use Rattle.ftn_tree.specs.ExecutableForms.{is_executable}
-use Rattle.expr_parse.specs.Input.{input}
+use Rattle.expr_parse.specs.steps.Input.{input}
 use Rattle.expr_parse.proofs.Laws.{expression_laws, reference_laws}
 use Rattle.expr_parse.proofs.Pieces.{some_pair}
 use Rattle.exec_parse.proofs.ExecutableLaws.{executable_complete}

@@ -18,7 +18,7 @@ use Rattle.ftn_tree.specs.Grammar.{expr, reference}
 use Rattle.ftn_tree.specs.Assignments.{IsAssignment}
 use Rattle.ftn_tree.specs.ExecutableForms.{stop_code, after_stars, condition, inner_from, comma_if, control, case_of, action_at, statement_at, executable_at, is_executable}
 use Rattle.ftn_tree.proofs.PhraseLaws.{to_right}
-use Rattle.expr_parse.specs.Input.{first_lexeme}
+use Rattle.expr_parse.specs.steps.Input.{first_lexeme}
 use Rattle.exec_parse.proofs.Words.{Starts, starts_with, starts_alone}
 
 abbrev pub is_among : List ℕ → List (List ℕ) → Bool

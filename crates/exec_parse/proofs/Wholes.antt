@@ -5,8 +5,8 @@ use Rattle.std.proofs.lemmas.List.{append-nil}
 use Rattle.ftn_tree.specs.declared.token.Token.{Token}
 use Rattle.ftn_tree.specs.Phrases.{Phrase, ◌·◌}
 use Rattle.ftn_tree.proofs.PhraseLaws.{placed}
-use Rattle.expr_parse.specs.Input.{Input, input, Reader, Outcome, ◌>>=◌, pure}
-use Rattle.expr_parse.specs.Combinators.{◌<$>◌}
+use Rattle.expr_parse.specs.steps.Input.{Input, input, Reader, Outcome, ◌>>=◌, pure}
+use Rattle.expr_parse.specs.steps.Combinators.{◌<$>◌}
 use Rattle.expr_parse.proofs.Pieces.{Piece, Took, begins, bind_some, bind_is}
 
 -- what is read to the end is a phrase of all tokens

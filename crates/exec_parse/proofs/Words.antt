@@ -13,12 +13,12 @@ use Rattle.ftn_tree.specs.Lexemes.{lexeme_of, is_word, is_word_at, same_lexeme}
 use Rattle.ftn_tree.specs.Phrases.{Phrase, ◌·◌, word, word_at, mark}
 use Rattle.ftn_tree.specs.declared.lexeme.Lexeme.{Lexeme}
 use Rattle.ftn_tree.specs.ExecutableForms.{joined_words}
-use Rattle.expr_parse.specs.Input.{Input, input, Reader, pure, holds_first, sees_word, peek_second, first_lexeme, after, taken_if, expect_word}
-use Rattle.expr_parse.specs.Combinators.{◌<$>◌}
-use Rattle.exec_parse.specs.Constructs as read
+use Rattle.expr_parse.specs.steps.Input.{Input, input, Reader, pure, holds_first, sees_word, peek_second, first_lexeme, after, taken_if, expect_word}
+use Rattle.expr_parse.specs.steps.Combinators.{◌<$>◌}
+use Rattle.exec_parse.specs.steps.Constructs as read
 use Rattle.expr_parse.proofs.Pieces.{Piece, Took, Apart, begins, begins_after, bind_some, bind_is, before_ignored}
 use Rattle.expr_parse.proofs.Tokens.{only, none_of, word_piece, word_kind, word_made, word_back, after_word}
-use Rattle.exec_parse.specs.Constructs.{is_colon, sees_label}
+use Rattle.exec_parse.specs.steps.Constructs.{is_colon, sees_label}
 use Rattle.exec_parse.proofs.Wholes.{Sound, either_way}
 
 -- the tokens begin with that word

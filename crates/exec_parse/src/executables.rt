@@ -2,8 +2,8 @@
 
 ghost use Rattle.ftn_tree.specs.ExecutableForms.{is_executable};
 ghost use Rattle.expr_parse.specs.Exact.{IsExact};
-ghost use Rattle.expr_parse.specs.Input.{Gives, tokens_in};
-ghost use Rattle.exec_parse.specs.Executables as spec;
+ghost use Rattle.expr_parse.specs.steps.Input.{Gives, tokens_in};
+ghost use Rattle.exec_parse.specs.steps.Executables as spec;
 
 use crate::actions::{read_action, read_assignment};
 use crate::cases::{read_case, read_select};
@@ -34,7 +34,7 @@ pub fn executable(alloc: Global, tokens: &Tokens, at: Range) -> Result<Form, Sta
     }
 }
 
-#[tactic(auto, unfolding(crate::specs::Executables::whole_executable))]
+#[tactic(auto, unfolding(crate::specs::steps::Executables::whole_executable))]
 fn read_whole_executable(alloc: Global, cursor: &mut Cursor<'_>) -> Result<Form, Misfit>
     ensures { Gives (spec.whole_executable cursor.old) result cursor.new }
 {
@@ -42,7 +42,7 @@ fn read_whole_executable(alloc: Global, cursor: &mut Cursor<'_>) -> Result<Form,
     cursor.finish_with(form)
 }
 
-#[tactic(auto, unfolding(crate::specs::Executables::executable))]
+#[tactic(auto, unfolding(crate::specs::steps::Executables::executable))]
 fn read_executable(alloc: Global, cursor: &mut Cursor<'_>) -> Result<Form, Misfit>
     ensures { Gives (spec.executable cursor.old) result cursor.new }
 {
@@ -56,7 +56,7 @@ fn read_executable(alloc: Global, cursor: &mut Cursor<'_>) -> Result<Form, Misfi
 }
 
 /// The statement that its first word says.
-#[tactic(auto, unfolding(crate::specs::Executables::statement))]
+#[tactic(auto, unfolding(crate::specs::steps::Executables::statement))]
 fn read_statement(alloc: Global, cursor: &mut Cursor<'_>) -> Result<Form, Misfit>
     ensures { Gives (spec.statement cursor.old) result cursor.new }
 {

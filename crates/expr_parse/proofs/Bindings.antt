@@ -11,8 +11,8 @@ use Rattle.ftn_tree.specs.declared.lexeme.Lexeme.TheVariants as lexeme
 use Rattle.ftn_tree.specs.Lexemes.{lexeme_of}
 use Rattle.ftn_tree.specs.Levels.{Binding, Prefix, between, before}
 use Rattle.ftn_tree.specs.Grammar.{IsBetween, IsBefore}
-use Rattle.expr_parse.specs.Input.{Input, first_lexeme, peek}
-use Rattle.expr_parse.specs.Operators.{next_operator, next_sign, only_between, only_before, between_at, before_at, fits_between}
+use Rattle.expr_parse.specs.steps.Input.{Input, first_lexeme, peek}
+use Rattle.expr_parse.specs.steps.Operators.{next_operator, next_sign, only_between, only_before, between_at, before_at, fits_between}
 
 -- an operator that makes an expression of a greater level than that of its right operand
 pub record Ordinary (how : Binding) : Type 0 where

@@ -7,8 +7,8 @@ use Rattle.ftn_tree.specs.declared.lexeme.Lexeme.{Lexeme}
 use Rattle.ftn_tree.specs.declared.lexeme.Lexeme.TheVariants.{Comma}
 use Rattle.ftn_tree.specs.Lexemes.{lexeme_of}
 use Rattle.ftn_tree.specs.Phrases.{nothing, ◌·◌, mark, after_commas}
-use Rattle.expr_parse.specs.Input.{Input, input, Reader, ◌>>=◌, pure, after, after_if, sees}
-use Rattle.expr_parse.specs.Combinators.{each_after_comma, each_after_comma_from}
+use Rattle.expr_parse.specs.steps.Input.{Input, input, Reader, ◌>>=◌, pure, after, after_if, sees}
+use Rattle.expr_parse.specs.steps.Combinators.{each_after_comma, each_after_comma_from}
 use Rattle.expr_parse.proofs.Pieces.{Piece, Took, Apart, begins, begins_or, bind_some, bind_is, took_both}
 use Rattle.expr_parse.proofs.Tokens.{only, is_same}
 use Rattle.expr_parse.proofs.Lists.{took_mark}

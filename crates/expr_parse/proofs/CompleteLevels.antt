@@ -11,9 +11,9 @@ use Rattle.ftn_tree.specs.Levels.{Binding, Prefix, before, loosest}
 use Rattle.ftn_tree.specs.Trees.{Tree, whole, truth, quoted, paren, unary, binary, refer}
 use Rattle.ftn_tree.specs.Phrases.{Phrase, ◌·◌, token, mark, mark_at, name}
 use Rattle.ftn_tree.specs.Grammar.{IsBetween, IsBefore, IsNumber, some_level, Spells, SpellsArgs, SpellsSection, IsExpression}
-use Rattle.expr_parse.specs.Input.{Input, Reader, Outcome, ◌>>=◌, after, sees, peek}
-use Rattle.expr_parse.specs.Operators.{next_operator, chained}
-use Rattle.expr_parse.specs.Reading as reading
+use Rattle.expr_parse.specs.steps.Input.{Input, Reader, Outcome, ◌>>=◌, after, sees, peek}
+use Rattle.expr_parse.specs.steps.Operators.{next_operator, chained}
+use Rattle.expr_parse.specs.steps.Reading as reading
 use Rattle.expr_parse.proofs.Pieces.{Took, bind_is}
 use Rattle.expr_parse.proofs.Tokens.{is_same}
 use Rattle.expr_parse.proofs.Chains.{chained_last}

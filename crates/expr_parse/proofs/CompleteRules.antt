@@ -15,9 +15,9 @@ use Rattle.ftn_tree.specs.Breaks.{number_of}
 use Rattle.ftn_tree.specs.Trees.{Tree, Trees, Args, Section, End, no_args, args, none, more, no_section, section, no_end, end}
 use Rattle.ftn_tree.specs.Phrases.{nothing, ◌·◌, mark, mark_at, name, in_parens}
 use Rattle.ftn_tree.specs.Grammar.{IsNumber, some_level, Spells, SpellsArgs, SpellsMore, SpellsSection, SpellsEnd}
-use Rattle.expr_parse.specs.Input.{Input, Reader, ◌>>=◌, ◌>>◌, pure, after, after_if, sees, expect, eat, peek}
-use Rattle.expr_parse.specs.Combinators.{◌<$>◌, each_after_comma_from}
-use Rattle.expr_parse.specs.Reading as reading
+use Rattle.expr_parse.specs.steps.Input.{Input, Reader, ◌>>=◌, ◌>>◌, pure, after, after_if, sees, expect, eat, peek}
+use Rattle.expr_parse.specs.steps.Combinators.{◌<$>◌, each_after_comma_from}
+use Rattle.expr_parse.specs.steps.Reading as reading
 use Rattle.expr_parse.proofs.Pieces.{Took, bind_is}
 use Rattle.ftn_tree.proofs.Inverse.{expr_of, args_back, exprs_of, part_back, end_back}
 use Rattle.expr_parse.proofs.Takes.{split_took, took_nothing, no_longer, Seen, took_mark, took_mark_at}

@@ -6,7 +6,7 @@ use Rattle.std.proofs.lemmas.Grind.{common_steps}
 use Rattle.ftn_base.specs.Limits.{most_parentheses}
 use Rattle.ftn_tree.specs.declared.token.Token.{Token}
 use Rattle.ftn_tree.specs.Misfits.{is_open, is_close, IsDeep}
-use Rattle.expr_parse.specs.Faults.{one_if, deep_from, is_deep}
+use Rattle.expr_parse.specs.steps.Faults.{one_if, deep_from, is_deep}
 
 abbrev count : (Token → Bool) → List Token → ℕ
 count test row = length (filter test row)

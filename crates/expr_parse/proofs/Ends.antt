@@ -5,8 +5,8 @@ use Rattle.std.proofs.lemmas.Option.{some_pair_parts}
 use Rattle.ftn_tree.specs.declared.token.Token.{Token}
 use Rattle.ftn_tree.specs.declared.lexeme.Lexeme.{Lexeme}
 use Rattle.ftn_tree.specs.Phrases.{nothing, maybe}
-use Rattle.expr_parse.specs.Input.{Input, input, Reader, Outcome, ◌>>◌, pure, is_done, done_at, finish}
-use Rattle.expr_parse.specs.Combinators.{◌<$>◌, option_unless_done, to_the_end}
+use Rattle.expr_parse.specs.steps.Input.{Input, input, Reader, Outcome, ◌>>◌, pure, is_done, done_at, finish}
+use Rattle.expr_parse.specs.steps.Combinators.{◌<$>◌, option_unless_done, to_the_end}
 use Rattle.expr_parse.proofs.Pieces.{Piece, Took, begins, bind_some, bind_is}
 
 abbrev pub any : Lexeme → Bool

@@ -6,8 +6,8 @@ use Rattle.ftn_tree.specs.declared.token.Token.{Token}
 use Rattle.ftn_tree.specs.Misfits.{IsDeep, is_outside}
 use Rattle.expr_parse.specs.declared.fault.StatementFault.{StatementFault}
 use Rattle.expr_parse.specs.declared.fault.StatementFault.TheVariants.{NotAStatement, OutOfProfile, TooDeep}
-use Rattle.expr_parse.specs.Input.{Input, input}
-use Rattle.expr_parse.specs.Combinators.{to_the_end}
+use Rattle.expr_parse.specs.steps.Input.{Input, input}
+use Rattle.expr_parse.specs.steps.Combinators.{to_the_end}
 use Rattle.expr_parse.specs.Exact.{FitsNone, IsExact, misfit}
 use Rattle.expr_parse.proofs.Pieces.{Piece}
 use Rattle.expr_parse.proofs.Ends.{whole_sound, whole_complete}

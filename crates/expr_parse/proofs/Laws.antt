@@ -16,8 +16,8 @@ use Rattle.ftn_tree.specs.Expressions.{is_reference, is_reference_at}
 use Rattle.ftn_tree.specs.Layers.{ExprLayer}
 use Rattle.ftn_tree.specs.Grammar.{SpellsArgs, SpellsSection, IsExpression, expr}
 use Rattle.ftn_tree.specs.Grammar as grammar
-use Rattle.expr_parse.specs.Input.{input, sees, peek}
-use Rattle.expr_parse.specs.Reading as reading
+use Rattle.expr_parse.specs.steps.Input.{input, sees, peek}
+use Rattle.expr_parse.specs.steps.Reading as reading
 use Rattle.expr_parse.proofs.Pieces.{Piece, Took, begins}
 use Rattle.expr_parse.proofs.AllKinds.{within}
 use Rattle.expr_parse.proofs.Operands.{goes_on, opens, name_first, ReadsExpressions, ReadsReferences, expression_piece, reference_piece}

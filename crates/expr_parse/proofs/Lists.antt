@@ -8,8 +8,8 @@ use Rattle.ftn_tree.specs.declared.lexeme.Lexeme.{Lexeme}
 use Rattle.ftn_tree.specs.declared.lexeme.Lexeme.TheVariants.{Comma}
 use Rattle.ftn_tree.specs.Lexemes.{lexeme_of}
 use Rattle.ftn_tree.specs.Phrases.{Phrase, nothing, ◌·◌, mark, commas, after_commas}
-use Rattle.expr_parse.specs.Input.{Input, input, Reader, ◌>>=◌, pure, taken_if, after, after_if, sees, expect, eat}
-use Rattle.expr_parse.specs.Combinators.{separated, separated_from}
+use Rattle.expr_parse.specs.steps.Input.{Input, input, Reader, ◌>>=◌, pure, taken_if, after, after_if, sees, expect, eat}
+use Rattle.expr_parse.specs.steps.Combinators.{separated, separated_from}
 use Rattle.expr_parse.proofs.Pieces.{Piece, Took, Apart, begins, begins_or, begins_after, bind_some, bind_is, took_both}
 use Rattle.expr_parse.proofs.Tokens.{only, mark_piece, bare_made, is_same}
 

@@ -6,8 +6,8 @@ use Rattle.ftn_tree.specs.declared.token.Token.{Token}
 use Rattle.ftn_tree.specs.declared.lexeme.Lexeme.TheVariants.{Comma, Open, Close}
 use Rattle.ftn_tree.specs.Lexemes.{lexeme_of}
 use Rattle.ftn_tree.specs.Phrases.{Phrase, ◌·◌, mark, commas_or_none}
-use Rattle.expr_parse.specs.Input.{Input, input, Reader, ◌>>=◌, ◌>>◌, pure, after, after_if, sees, expect}
-use Rattle.expr_parse.specs.Combinators.{separated, rest_of_list}
+use Rattle.expr_parse.specs.steps.Input.{Input, input, Reader, ◌>>=◌, ◌>>◌, pure, after, after_if, sees, expect}
+use Rattle.expr_parse.specs.steps.Combinators.{separated, rest_of_list}
 use Rattle.expr_parse.proofs.Pieces.{Piece, Took, Apart, begins}
 use Rattle.expr_parse.proofs.Tokens.{only, before_mark, after_mark, is_same}
 use Rattle.expr_parse.proofs.Lists.{took_mark, list, list_more}

@@ -9,8 +9,8 @@ use Rattle.ftn_tree.specs.declared.lexeme.Lexeme.{Lexeme}
 use Rattle.ftn_tree.specs.Lexemes.{lexeme_of, same_lexeme}
 use Rattle.ftn_tree.specs.Phrases.{Phrase, nothing, ◌·◌, token, maybe}
 use Rattle.ftn_tree.proofs.PhraseLaws.{placed}
-use Rattle.expr_parse.specs.Input.{Input, input, Reader, Outcome, and_then, ◌>>=◌, ◌>>◌, pure, holds_first, taken_if, after, sees}
-use Rattle.expr_parse.specs.Combinators.{◌<$>◌, ◌⊗◌, option_if}
+use Rattle.expr_parse.specs.steps.Input.{Input, input, Reader, Outcome, and_then, ◌>>=◌, ◌>>◌, pure, holds_first, taken_if, after, sees}
+use Rattle.expr_parse.specs.steps.Combinators.{◌<$>◌, ◌⊗◌, option_if}
 
 -- the first of these tokens, if there is one, is such
 abbrev pub begins : (Lexeme → Bool) → List Token → Bool

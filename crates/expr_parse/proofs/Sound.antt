@@ -12,8 +12,8 @@ use Rattle.ftn_tree.specs.Breaks.{number_of}
 use Rattle.ftn_tree.specs.Trees.{Tree, whole, truth, quoted, tree_of}
 use Rattle.ftn_tree.specs.Phrases.{Phrase, token}
 use Rattle.ftn_tree.specs.Grammar.{IsNumber, truth_lexeme, Spells}
-use Rattle.expr_parse.specs.Input.{Input, after}
-use Rattle.expr_parse.specs.Reading as reading
+use Rattle.expr_parse.specs.steps.Input.{Input, after}
+use Rattle.expr_parse.specs.steps.Reading as reading
 use Rattle.expr_parse.proofs.Pieces.{Took}
 use Rattle.ftn_tree.proofs.Inverse.{tree_whole, tree_truth, tree_quoted}
 use Rattle.expr_parse.proofs.Takes.{retold, token_took, given}

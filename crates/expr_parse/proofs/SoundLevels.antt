@@ -11,9 +11,9 @@ use Rattle.ftn_tree.specs.Trees.{tree_of}
 use Rattle.ftn_tree.specs.Phrases.{◌·◌, token}
 use Rattle.ftn_tree.specs.Grammar.{IsBetween, IsBefore, Spells, expr}
 use Rattle.ftn_tree.specs.Grammar as grammar
-use Rattle.expr_parse.specs.Input.{Input, Reader, ◌>>=◌, after, sees}
-use Rattle.expr_parse.specs.Operators.{next_operator, next_sign, chained}
-use Rattle.expr_parse.specs.Reading as reading
+use Rattle.expr_parse.specs.steps.Input.{Input, Reader, ◌>>=◌, after, sees}
+use Rattle.expr_parse.specs.steps.Operators.{next_operator, next_sign, chained}
+use Rattle.expr_parse.specs.steps.Reading as reading
 use Rattle.expr_parse.proofs.Pieces.{Took, bind_some, took_both}
 use Rattle.expr_parse.proofs.Lists as lists
 use Rattle.expr_parse.proofs.Chains.{chained_last}

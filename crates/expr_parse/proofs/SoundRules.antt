@@ -13,9 +13,9 @@ use Rattle.ftn_tree.specs.Trees.{Section, paren, refer, tree_of}
 use Rattle.ftn_tree.specs.Phrases.{nothing, ◌·◌, mark, mark_at, name, in_parens}
 use Rattle.ftn_tree.specs.Expressions.{is_reference, is_reference_at}
 use Rattle.ftn_tree.specs.Grammar.{Spells, SpellsArgs, SpellsList, SpellsMore, SpellsSection, SpellsEnd, expr}
-use Rattle.expr_parse.specs.Input.{Input, Reader, ◌>>=◌, ◌>>◌, pure, after, after_if, sees, expect, eat, peek}
-use Rattle.expr_parse.specs.Combinators.{◌<$>◌, each_after_comma_from}
-use Rattle.expr_parse.specs.Reading as reading
+use Rattle.expr_parse.specs.steps.Input.{Input, Reader, ◌>>=◌, ◌>>◌, pure, after, after_if, sees, expect, eat, peek}
+use Rattle.expr_parse.specs.steps.Combinators.{◌<$>◌, each_after_comma_from}
+use Rattle.expr_parse.specs.steps.Reading as reading
 use Rattle.expr_parse.proofs.Pieces.{Took, bind_some, took_both}
 use Rattle.expr_parse.proofs.Tokens.{mark_piece, bare_made}
 use Rattle.expr_parse.proofs.Lists as lists

@@ -9,8 +9,8 @@ use Rattle.ftn_tree.specs.Lexemes.{lexeme_of, same_lexeme}
 use Rattle.ftn_tree.specs.Levels.{Binding, Prefix, between, before}
 use Rattle.ftn_tree.specs.Trees.{Tree, whole, truth, quoted, paren, unary, binary, refer}
 use Rattle.ftn_tree.specs.Grammar.{IsBetween, truth_lexeme, Spells}
-use Rattle.expr_parse.specs.Input.{Input, holds_first, first_lexeme, sees, peek}
-use Rattle.expr_parse.specs.Operators.{next_operator, next_sign, only_between, only_before, between_at, before_at}
+use Rattle.expr_parse.specs.steps.Input.{Input, holds_first, first_lexeme, sees, peek}
+use Rattle.expr_parse.specs.steps.Operators.{next_operator, next_sign, only_between, only_before, between_at, before_at}
 use Rattle.expr_parse.proofs.Pieces.{Took, Apart, begins, begins_after}
 use Rattle.expr_parse.proofs.AllKinds.{apart}
 use Rattle.expr_parse.proofs.Tokens.{only, same_is}

@@ -7,7 +7,7 @@ use Rattle.ftn_tree.specs.declared.lexeme.Lexeme.{Lexeme}
 use Rattle.ftn_tree.specs.Lexemes.{lexeme_of, same_lexeme}
 use Rattle.ftn_tree.specs.Phrases.{Phrase, nothing, ◌·◌, token, mark, mark_at}
 use Rattle.ftn_tree.proofs.PhraseLaws.{placed}
-use Rattle.expr_parse.specs.Input.{Input, input, after, taken_if, holds_first, first_lexeme, sees, peek, expect}
+use Rattle.expr_parse.specs.steps.Input.{Input, input, after, taken_if, holds_first, first_lexeme, sees, peek, expect}
 use Rattle.expr_parse.proofs.Pieces.{Took}
 use Rattle.expr_parse.proofs.Tokens.{same_is, is_same}
 

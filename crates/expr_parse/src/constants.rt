@@ -1,8 +1,8 @@
 //! Constants (Fortran 90, 4.3).
 
 ghost use Rattle.std.specs.Prelude.{◌≡◌};
-ghost use Rattle.expr_parse.specs.Input.{Gives};
-ghost use Rattle.expr_parse.specs.Reading as spec;
+ghost use Rattle.expr_parse.specs.steps.Input.{Gives};
+ghost use Rattle.expr_parse.specs.steps.Reading as spec;
 
 use crate::cursor::Cursor;
 use crate::fault::Misfit;
@@ -11,7 +11,7 @@ use ftn_tree::{Expr, Lexeme};
 use std::alloc::Global;
 
 /// The number that digits mean, if it is small enough. All greater ones count as one.
-#[tactic(auto, unfolding(crate::specs::Reading::whole_value))]
+#[tactic(auto, unfolding(crate::specs::steps::Reading::whole_value))]
 fn whole_value(digits: &[u8]) -> Option<i32>
     ensures { result ≡ spec.whole_value digits.now }
 {
@@ -29,7 +29,7 @@ fn whole_value(digits: &[u8]) -> Option<i32>
 }
 
 /// Reads a token that is a constant by itself.
-#[tactic(auto, unfolding(crate::specs::Reading::constant))]
+#[tactic(auto, unfolding(crate::specs::steps::Reading::constant))]
 pub fn constant(alloc: Global, cursor: &mut Cursor<'_>) -> Result<Expr, Misfit>
     ensures { Gives (spec.constant cursor.old) result cursor.new }
 {

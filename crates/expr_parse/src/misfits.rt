@@ -4,7 +4,7 @@ ghost use Rattle.std.specs.Prelude.{IsTrue, ◌↔◌, ◌≡◌, ◌+◌, ◌<�
 ghost use Rattle.std.specs.List.{list_any};
 ghost use Rattle.ftn_tree.specs.Lexemes.{lexeme_of, is_word};
 ghost use Rattle.ftn_tree.specs.Misfits as outside;
-ghost use Rattle.expr_parse.specs.Faults as spec;
+ghost use Rattle.expr_parse.specs.steps.Faults as spec;
 ghost use Rattle.expr_parse.specs.Exact as exact;
 
 use crate::fault::StatementFault;
@@ -49,7 +49,7 @@ fn nests_too_deep(tokens: &[Token]) -> bool
     }
 }
 
-#[tactic(auto, unfolding(crate::specs::Faults::is_deep))]
+#[tactic(auto, unfolding(crate::specs::steps::Faults::is_deep))]
 fn counts_too_deep(tokens: &[Token]) -> bool
     ensures { result ≡ spec.is_deep tokens.now }
 {

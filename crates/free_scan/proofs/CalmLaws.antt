@@ -5,7 +5,7 @@ use Rattle.std.specs.List.{prefix_len}
 use Rattle.std.proofs.lemmas.Bool.{cond_both, leb-true, ltb-true, lt-leb, le-ltb, not-true}
 use Rattle.std.proofs.lemmas.Bool.Decides.{nat_tests}
 use Rattle.ftn_tree.specs.Code.{code_len, is_control, is_quote, is_wrong, quote_after}
-use Rattle.free_scan.specs.PlainText.{is_calm, is_plain, plain_end}
+use Rattle.free_scan.specs.steps.PlainText.{is_calm, is_plain, plain_end}
 
 from_eq : (a b : ℕ) → (a == b) ≡ true → a ≡ b
 from_eq a b e = grind (arith, nat_tests)

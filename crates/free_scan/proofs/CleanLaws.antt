@@ -9,7 +9,7 @@ use Rattle.std.proofs.lemmas.List.Concat.{flat_map-cons}
 use Rattle.std.proofs.lemmas.Slice.Eq.{bytes_eq-Decides}
 use Rattle.std.specs.Cmp.{both_ways}
 use Rattle.free_scan.specs.Clean.{are_distinct, is_among, is_clean, is_free_name, operand_names, statement_fits, statement_names, sum_names, variables}
-use Rattle.free_scan.specs.Fresh.{are_fresh}
+use Rattle.free_scan.specs.steps.Fresh.{are_fresh}
 use Rattle.free_scan.specs.Spelling.{is_some_row}
 use Rattle.ftn_base.specs.Keywords.{is_keyword, is_intrinsic}
 use Rattle.ftn_base.specs.Limits.{name_limit}

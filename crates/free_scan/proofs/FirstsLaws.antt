@@ -4,7 +4,7 @@ use Rattle.std.specs.Prelude.{◌&&◌, ◌||◌, ◌==◌, nat_lt}
 use Rattle.std.proofs.lemmas.Bool.{cond_both, ltb-true, ltb-false}
 use Rattle.std.proofs.lemmas.Bool.Decides.{nat_tests}
 use Rattle.ftn_tree.specs.Breaks.{Among, Breach, IsFirst, rank}
-use Rattle.free_scan.specs.Firsts.{comes_before, earlier, least, merged, IsFirstOf}
+use Rattle.free_scan.specs.steps.Firsts.{comes_before, earlier, least, merged, IsFirstOf}
 
 abbrev pub NotAfter : Breach → Breach → Type 0
 NotAfter breach other = (breach.0 < other.0) ⊎ ((breach.0 ≡ other.0) × (rank breach.1 ≤ rank other.1))

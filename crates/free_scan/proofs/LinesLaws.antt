@@ -10,8 +10,8 @@ use Rattle.std.proofs.lemmas.List.Splits.{slice_split_first, slice_split_none}
 use Rattle.ftn_tree.specs.Lines.{Line, is_line_feed, placed, without_return}
 use Rattle.ftn_tree.specs.Breaks.{Breach, long_line}
 use Rattle.ftn_tree.specs.Logical.{Carried}
-use Rattle.free_scan.specs.Firsts.{earlier, least}
-use Rattle.free_scan.specs.LinesLeft.{line_size, body_at, lines_left, long_left}
+use Rattle.free_scan.specs.steps.Firsts.{earlier, least}
+use Rattle.free_scan.specs.steps.LinesLeft.{line_size, body_at, lines_left, long_left}
 
 with_first : (x : ℕ) (parts : List (List ℕ)) → (part : List ℕ) × (more : List (List ℕ)) × (onto_first x parts ≡ part ∷ more)
 with_first x [] = (x ∷ [], [], refl)

@@ -5,7 +5,7 @@ use Rattle.std.proofs.lemmas.Option.{same_Some}
 use Rattle.free_scan.specs.Clean.{is_clean}
 use Rattle.free_scan.specs.FirstForm.{IsProgramText, Lacks}
 use Rattle.free_scan.specs.Lines.{is_plain}
-use Rattle.free_scan.specs.Reading.{◌>>=◌, read_clean, read_program}
+use Rattle.free_scan.specs.steps.Reading.{◌>>=◌, read_clean, read_program}
 use Rattle.free_scan.specs.Spelling.{lexeme_of, lexeme_rows, rows_of, spell_program}
 use Rattle.free_scan.specs.Tokens.{placed_pieces_of}
 use Rattle.free_scan.specs.declared.first_form.program.Program.{Program}

@@ -22,8 +22,8 @@ use Rattle.ftn_tree.specs.Logical.{Carried, Glyph, byte, gap, cut, after_line, c
 use Rattle.ftn_tree.specs.Pieces.{Piece, pieces_of}
 use Rattle.ftn_tree.specs.Reading.{each_piece, over_cells, over_run, runs_of}
 use Rattle.ftn_tree.proofs.LineLaws.{text_by, shorter, span, span_of_text}
-use Rattle.free_scan.specs.Firsts.{IsFirstOf}
-use Rattle.free_scan.specs.RowsLeft.{wrongs_left}
+use Rattle.free_scan.specs.steps.Firsts.{IsFirstOf}
+use Rattle.free_scan.specs.steps.RowsLeft.{wrongs_left}
 use Rattle.free_scan.proofs.FirstsLaws.{among_either}
 use Rattle.free_scan.proofs.RowsLaws.{wrongs_of_runs}
 

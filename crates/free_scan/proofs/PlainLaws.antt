@@ -10,7 +10,7 @@ use Rattle.ftn_tree.specs.Lines.{is_line_feed}
 use Rattle.std.specs.List.{onto_first}
 use Rattle.ftn_base.specs.Limits.{line_limit}
 use Rattle.free_scan.specs.Lines.{lines, is_plain_byte, is_plain_line, is_plain}
-use Rattle.free_scan.specs.PlainWalk.{plain_from}
+use Rattle.free_scan.specs.steps.PlainWalk.{plain_from}
 
 -- whether lines are plain, where that many plain bytes stand before the first
 abbrev pub plain_after : ℕ → List (List ℕ) → Bool

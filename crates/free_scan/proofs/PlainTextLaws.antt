@@ -17,8 +17,8 @@ use Rattle.ftn_tree.specs.Breaks.{only_if, piece_breaches, wrong_bytes}
 use Rattle.ftn_tree.specs.Code.{is_outside, is_wrong, open_after, quote_after}
 use Rattle.ftn_tree.specs.Logical.{byte, cut, glyph, glyphs, is_cut}
 use Rattle.ftn_tree.specs.Reading.{last_of, token_of, value_of}
-use Rattle.free_scan.specs.Scanning.{State, IsWithin, finished, flushed, pushed, taken, taken_all}
-use Rattle.free_scan.specs.PlainText.{adjoining, is_plain, plain_end, row_breaches, row_tokens, with_row}
+use Rattle.free_scan.specs.steps.Scanning.{State, IsWithin, finished, flushed, pushed, taken, taken_all}
+use Rattle.free_scan.specs.steps.PlainText.{adjoining, is_plain, plain_end, row_breaches, row_tokens, with_row}
 use Rattle.free_scan.proofs.ScanLaws.{within_finished, within_flushed}
 
 no_both : (a : Bool) → (a && false) ≡ false

@@ -9,7 +9,7 @@ use Rattle.std.proofs.lemmas.List.{take-append-drop}
 use Rattle.std.proofs.lemmas.Slice.Eq.{bytes_eq-Decides}
 use Rattle.ftn_base.specs.Limits.{greatest_integer}
 use Rattle.std.proofs.lemmas.Option.{same_Some}
-use Rattle.free_scan.specs.Reading.{◌>>=◌, and_last, fitting, is_closing, is_comma, is_declaration, is_lower_name, read_all, read_body, read_declaration, read_name, read_names, read_opening, read_operand, read_print, read_program, read_sign, read_statement, read_sum, read_sums, read_term, read_terms, says_mark, says_word, word_of}
+use Rattle.free_scan.specs.steps.Reading.{◌>>=◌, and_last, fitting, is_closing, is_comma, is_declaration, is_lower_name, read_all, read_body, read_declaration, read_name, read_names, read_opening, read_operand, read_print, read_program, read_sign, read_statement, read_sum, read_sums, read_term, read_terms, says_mark, says_word, word_of}
 use Rattle.free_scan.specs.Spelling.{Lexeme, word, whole, mark, commas, is_some_row, spell_declaration, spell_operand, spell_program, spell_sign, spell_statement, spell_sum, spell_terms}
 use Rattle.free_scan.specs.declared.first_form.program.Operand.{Operand}
 use Rattle.free_scan.specs.declared.first_form.program.Operand.TheVariants as operands

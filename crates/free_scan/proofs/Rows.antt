@@ -6,7 +6,7 @@ use Rattle.std.proofs.lemmas.List.Elements.{filter-append}
 use Rattle.std.proofs.lemmas.List.{append-nil}
 use Rattle.std.proofs.lemmas.Bool.Decides.{nat_tests}
 use Rattle.ftn_base.specs.Limits.{greatest_integer}
-use Rattle.free_scan.specs.Reading.{is_comma, fitting}
+use Rattle.free_scan.specs.steps.Reading.{is_comma, fitting}
 use Rattle.free_scan.specs.Spelling.{lexeme_of, number_of, is_some_row, token_lines, rows_of}
 use Rattle.free_scan.specs.Tokens.{is_line_end}
 use Rattle.free_scan.specs.declared.first_form.token.PlacedPiece.{PlacedPiece}

@@ -12,8 +12,8 @@ use Rattle.ftn_tree.specs.declared.piece.Spot.{Spot}
 use Rattle.ftn_tree.specs.Pieces.{Piece, front}
 use Rattle.ftn_tree.specs.Reading.{last_of, each_piece, over_run}
 use Rattle.ftn_tree.specs.Breaks.{Breach, number_of}
-use Rattle.free_scan.specs.Firsts.{earlier, least}
-use Rattle.free_scan.specs.Runs.{Fits}
+use Rattle.free_scan.specs.steps.Firsts.{earlier, least}
+use Rattle.free_scan.specs.steps.Runs.{Fits}
 use Rattle.free_scan.proofs.PieceLaws.{enough, less}
 
 -- one digit more

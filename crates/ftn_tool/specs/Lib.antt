@@ -1,5 +1,4 @@
 pub mod Words
-pub mod Reading
 pub mod Verdicts
 pub mod Answers
 pub mod Replies

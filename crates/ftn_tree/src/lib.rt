@@ -1,4 +1,18 @@
 //! Tokens, trees and tables of Fortran 90 source text, and the definitions that readers of it meet.
+//!
+//! Its own calls say what a token is in the grammar, what a statement is to nesting, and give the names of a statement with what is said
+//! of them (`Form::push_mentions`) and its expressions with what their places want (`Form::push_expressions`). Two laws tie trees to
+//! tokens: `operators_are_those_of_tokens` and `names_are_those_of_tokens`.
+//!
+//! All of its specs are to be trusted, by whoever cites them:
+//! source form (`Lines`, `Code`, `Logical`, `Pieces`, `Reading`, `Breaks`); expressions (`Lexemes`, `Operators`, `Levels`, `Trees`,
+//! `Phrases`, `Grammar`, `Misfits`); statements (`Assignments`, `TypeForms`, `SpecificationForms`, `UnitForms`, `Specifications`,
+//! `ExecutableForms`); nesting (`Marks`, `Regions`, `Nesting`, `NestFaults`); files and projects (`FileFaults`, `ProjectFaults`,
+//! `ProjectLimits`); names and expressions of statements (`Roles`, `Expressions`, `PartMentions`, `Mentions`, `RowNames`, `Wants`);
+//! scoping units and declarations (`Extents`, `Scopes`, `ScopeLetters`, `Sayings`, `Exclusions`, `GlobalNames`, `DeclarationFaults`,
+//! `DeclaredEntities`); kinds of entities (`Kinds`); records and items of lists (`ListRecords`, `ListItems`).
+//!
+//! That a text has a tree or a fault is shown by the crates that read. What names denote isn't said yet.
 #![tactic(auto)]
 
 mod around;

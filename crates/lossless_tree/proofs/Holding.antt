@@ -9,7 +9,7 @@ use Rattle.std.proofs.lemmas.List.Sums.{prefix_len_is}
 use Rattle.std.proofs.lemmas.Bool.{le-leb, lt-leb, leb-true, leb-false, lt-ltb, le-ltb}
 use Rattle.ftn_tree.specs.declared.token.Token.{Token}
 use Rattle.ftn_tree.specs.Reading.{tokens_of}
-use Rattle.lossless_tree.specs.Edges.{has_ended, begun_at}
+use Rattle.lossless_tree.specs.steps.Edges.{has_ended, begun_at}
 use Rattle.lossless_tree.specs.Texts.{Rise, first_holding, token_at}
 use Rattle.lossless_tree.proofs.Rising.{tokens_rise}
 

@@ -12,7 +12,7 @@ use Rattle.std.specs.List.{onto_first}
 use Rattle.ftn_base.specs.Limits.{line_limit}
 use Rattle.free_scan.specs.Lines.{lines}
 use Rattle.rename_ref.specs.Conditions.{line_length, on_long_line}
-use Rattle.rename_ref.specs.LineLengths.{last_length, is_long_in}
+use Rattle.rename_ref.specs.steps.LineLengths.{last_length, is_long_in}
 
 -- the lengths of the lines, where so many bytes of the first went before
 abbrev pub lengths_after : ℕ → List ℕ → List ℕ

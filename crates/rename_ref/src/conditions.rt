@@ -8,7 +8,7 @@ ghost use Rattle.ftn_base.specs.Keywords as keywords;
 ghost use Rattle.free_scan.specs.Lines.{lines};
 ghost use Rattle.rename_ref.specs.Conditions as spec;
 ghost use Rattle.rename_ref.specs.Edits.{replacing as replacing_of};
-ghost use Rattle.rename_ref.specs.LineLengths.{is_long_in, last_length};
+ghost use Rattle.rename_ref.specs.steps.LineLengths.{is_long_in, last_length};
 ghost use Rattle.rename_ref.specs.Names as names;
 ghost use Rattle.rename_ref.specs.Names.{denoting, name_tokens};
 

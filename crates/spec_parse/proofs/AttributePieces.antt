@@ -12,8 +12,8 @@ use Rattle.ftn_tree.specs.Lexemes.{same_lexeme}
 use Rattle.ftn_tree.specs.Phrases.{Phrase, never, ◌·◌, word, word_at, whether}
 use Rattle.ftn_tree.specs.SpecificationForms as form
 use Rattle.ftn_tree.proofs.PhraseLaws.{drop_end, add_end}
-use Rattle.expr_parse.specs.Input.{Input, input, sees_word, expect_word}
-use Rattle.expr_parse.specs.Combinators.{◌<$>◌}
+use Rattle.expr_parse.specs.steps.Input.{Input, input, sees_word, expect_word}
+use Rattle.expr_parse.specs.steps.Combinators.{◌<$>◌}
 use Rattle.expr_parse.proofs.Pieces.{Piece, Apart, reread}
 use Rattle.expr_parse.proofs.AllKinds.{apart}
 use Rattle.expr_parse.proofs.Tokens.{only, none_of, word_piece, word_made, word_back, after_word, parens}

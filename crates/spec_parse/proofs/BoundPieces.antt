@@ -9,7 +9,7 @@ use Rattle.ftn_tree.specs.Phrases.{◌·◌, mark_at}
 use Rattle.ftn_tree.specs.Grammar.{expr}
 use Rattle.ftn_tree.specs.SpecificationForms as form
 use Rattle.ftn_tree.proofs.PhraseLaws.{drop_end, add_end}
-use Rattle.expr_parse.specs.Input.{Input, sees}
+use Rattle.expr_parse.specs.steps.Input.{Input, sees}
 use Rattle.expr_parse.proofs.Pieces.{Piece, Apart, reread, option, seq}
 use Rattle.expr_parse.proofs.AllKinds.{apart}
 use Rattle.expr_parse.proofs.Tokens.{only, none_of, mark_piece, bare_made, bare_back, after_mark, before_mark, parens}

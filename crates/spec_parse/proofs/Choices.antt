@@ -5,8 +5,8 @@ use Rattle.std.proofs.lemmas.Option.{some_pair_parts}
 use Rattle.ftn_tree.specs.declared.token.Token.{Token}
 use Rattle.ftn_tree.specs.declared.lexeme.Lexeme.{Lexeme}
 use Rattle.ftn_tree.specs.Phrases.{Phrase, provided}
-use Rattle.expr_parse.specs.Input.{Input, input, Reader, Outcome, and_then, pure, refuse}
-use Rattle.expr_parse.specs.Combinators.{◌<$>◌}
+use Rattle.expr_parse.specs.steps.Input.{Input, input, Reader, Outcome, and_then, pure, refuse}
+use Rattle.expr_parse.specs.steps.Combinators.{◌<$>◌}
 use Rattle.expr_parse.proofs.Pieces.{Piece, Took, begins, begins_or, bind_some, bind_is, begins_left, begins_right}
 use Rattle.spec_parse.specs.steps.Choices.{choose, checked, numbered, picked, given}
 

@@ -14,7 +14,7 @@ use Rattle.ftn_tree.specs.Phrases.{Phrase, ◌·◌, provided, mark, commas}
 use Rattle.ftn_tree.specs.UnitForms.{unit_form_at}
 use Rattle.ftn_tree.specs.SpecificationForms as form
 use Rattle.ftn_tree.specs.SpecificationForms.{declaration_at}
-use Rattle.expr_parse.specs.Input.{Input}
+use Rattle.expr_parse.specs.steps.Input.{Input}
 use Rattle.expr_parse.proofs.Pieces.{Piece, Apart, mapped, reread, seq}
 use Rattle.expr_parse.proofs.AllKinds.{apart}
 use Rattle.expr_parse.proofs.Tokens.{only, apart_none, before_mark, after_word}

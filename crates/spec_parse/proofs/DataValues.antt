@@ -19,9 +19,9 @@ use Rattle.ftn_tree.specs.Phrases.{Phrase, never, ◌·◌, token, mark, mark_at
 use Rattle.ftn_tree.specs.Grammar.{truth_lexeme}
 use Rattle.ftn_tree.specs.TypeForms.{whole_number}
 use Rattle.ftn_tree.specs.SpecificationForms as form
-use Rattle.expr_parse.specs.Input.{Input, input, and_then, sees, peek_second}
-use Rattle.expr_parse.specs.Combinators.{◌<$>◌}
-use Rattle.expr_parse.specs.Reading.{whole_value, whole_at, constant_by, take_one, constant}
+use Rattle.expr_parse.specs.steps.Input.{Input, input, and_then, sees, peek_second}
+use Rattle.expr_parse.specs.steps.Combinators.{◌<$>◌}
+use Rattle.expr_parse.specs.steps.Reading.{whole_value, whole_at, constant_by, take_one, constant}
 use Rattle.expr_parse.proofs.Pieces.{Piece, Apart, begins, reread, seq}
 use Rattle.expr_parse.proofs.AllKinds.{apart, within}
 use Rattle.expr_parse.proofs.Tokens.{only, none_of, mark_piece, name_piece, bare_made, bare_back, before_mark}

@@ -18,7 +18,7 @@ use Rattle.ftn_tree.specs.TypeForms.{type_text}
 use Rattle.ftn_tree.specs.SpecificationForms as form
 use Rattle.ftn_tree.specs.SpecificationForms.{declaration_at}
 use Rattle.ftn_tree.proofs.PhraseLaws.{placed}
-use Rattle.expr_parse.specs.Input.{Input, input, Reader, and_then, pure, ◌>>◌, finish}
+use Rattle.expr_parse.specs.steps.Input.{Input, input, Reader, and_then, pure, ◌>>◌, finish}
 use Rattle.expr_parse.proofs.Pieces.{Piece, Took, Apart, begins, bind_some, took_both, stops_before}
 use Rattle.expr_parse.proofs.AllKinds.{apart}
 use Rattle.expr_parse.proofs.Tokens.{only, word_kind}

@@ -7,7 +7,7 @@ use Rattle.ftn_tree.specs.declared.token.Token.{Token}
 use Rattle.ftn_tree.specs.declared.lexeme.Lexeme.{Lexeme}
 use Rattle.ftn_tree.specs.Phrases.{Phrase, nothing, never, ◌·◌, each}
 use Rattle.ftn_tree.proofs.PhraseLaws.{placed}
-use Rattle.expr_parse.specs.Input.{Input, input, Reader, ◌>>=◌, is_done, done_at}
+use Rattle.expr_parse.specs.steps.Input.{Input, input, Reader, ◌>>=◌, is_done, done_at}
 use Rattle.expr_parse.proofs.Pieces.{Piece, Took, Apart, begins, begins_after, bind_some, bind_is, took_both, apart_from}
 use Rattle.expr_parse.proofs.Ends.{any, no_rest}
 use Rattle.spec_parse.specs.steps.Data.{each_from}

@@ -4,7 +4,7 @@ use Rattle.std.proofs.lemmas.Bool.{or_left, or_right}
 use Rattle.ftn_tree.specs.declared.token.Token.{Token}
 use Rattle.ftn_tree.specs.declared.lexeme.Lexeme.{Lexeme}
 use Rattle.ftn_tree.specs.Phrases.{Phrase}
-use Rattle.expr_parse.specs.Input.{Input, input}
+use Rattle.expr_parse.specs.steps.Input.{Input, input}
 use Rattle.expr_parse.proofs.Pieces.{Piece, Took, begins, begins_or, begins_left, begins_right}
 use Rattle.spec_parse.specs.steps.Choices.{choose}
 

@@ -11,8 +11,8 @@ use Rattle.ftn_tree.specs.declared.parts.EndWord.TheVariants.{Program, Module, B
 use Rattle.ftn_tree.specs.declared.parts.Ending.{Ending}
 use Rattle.ftn_tree.specs.Phrases.{Phrase, ◌·◌, word, name, whether, maybe}
 use Rattle.ftn_tree.specs.UnitForms.{is_parted, end_text, end_words, end_of}
-use Rattle.expr_parse.specs.Input.{input, Reader, sees_word}
-use Rattle.expr_parse.specs.Combinators.{◌<$>◌}
+use Rattle.expr_parse.specs.steps.Input.{input, Reader, sees_word}
+use Rattle.expr_parse.specs.steps.Combinators.{◌<$>◌}
 use Rattle.spec_parse.specs.steps.Endings.{ending, parted_end, end_row}
 use Rattle.spec_parse.specs.declared.rows.Row.TheVariants as row
 use Rattle.spec_parse.specs.steps.Rows.{find_row, attribute_row, row_at_front}

@@ -6,7 +6,7 @@ use Rattle.ftn_tree.specs.declared.lexeme.Lexeme.{Lexeme}
 use Rattle.ftn_tree.specs.declared.lexeme.Lexeme.TheVariants.{Word}
 use Rattle.ftn_tree.specs.Lexemes.{lexeme_of}
 use Rattle.ftn_tree.specs.Phrases.{nothing, word, mark, whether}
-use Rattle.expr_parse.specs.Input.{Input, input, after, after_if, eat, eat_word, sees, sees_word, expect_word, taken_if}
+use Rattle.expr_parse.specs.steps.Input.{Input, input, after, after_if, eat, eat_word, sees, sees_word, expect_word, taken_if}
 use Rattle.expr_parse.proofs.Pieces.{Piece, Took, begins}
 use Rattle.expr_parse.proofs.Tokens.{only, is_same, word_piece, word_made, word_kind}
 use Rattle.expr_parse.proofs.Lists.{took_mark}

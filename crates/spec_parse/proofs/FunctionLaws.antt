@@ -17,7 +17,7 @@ use Rattle.ftn_tree.specs.TypeForms.{type_text}
 use Rattle.ftn_tree.specs.Layers.{FormLayer}
 use Rattle.ftn_tree.specs.SpecificationForms.{declaration_at}
 use Rattle.ftn_tree.specs.UnitForms.{unit_form_at}
-use Rattle.expr_parse.specs.Input.{Input, input, Reader, Outcome, and_then, ◌>>◌, pure, finish, is_done, done_at}
+use Rattle.expr_parse.specs.steps.Input.{Input, input, Reader, Outcome, and_then, ◌>>◌, pure, finish, is_done, done_at}
 use Rattle.expr_parse.proofs.AllKinds.{apart}
 use Rattle.expr_parse.proofs.Operands.{ReadsExpressions}
 use Rattle.expr_parse.proofs.Pieces.{Took, Apart, begins, bind_some, took_both}

@@ -19,8 +19,8 @@ use Rattle.ftn_tree.specs.Phrases.{Phrase, nothing, provided, ◌·◌, mark, wh
 use Rattle.ftn_tree.specs.UnitForms.{unit_form_at}
 use Rattle.ftn_tree.specs.SpecificationForms as form
 use Rattle.ftn_tree.specs.SpecificationForms.{declaration_at}
-use Rattle.expr_parse.specs.Input.{Input, input, Reader, pure, ◌>>=◌, sees, is_done, done_at, peek_second}
-use Rattle.expr_parse.specs.Combinators.{◌⊗◌}
+use Rattle.expr_parse.specs.steps.Input.{Input, input, Reader, pure, ◌>>=◌, sees, is_done, done_at, peek_second}
+use Rattle.expr_parse.specs.steps.Combinators.{◌⊗◌}
 use Rattle.expr_parse.proofs.Pieces.{Piece, Took, Apart, begins, bind_some, bind_is, took_both, seq, apart_from}
 use Rattle.expr_parse.proofs.AllKinds.{apart}
 use Rattle.expr_parse.proofs.Tokens.{only, after_word, is_same}

@@ -9,8 +9,8 @@ use Rattle.ftn_tree.specs.declared.lexeme.Lexeme.TheVariants.{Divide, Concat}
 use Rattle.ftn_tree.specs.Lexemes.{lexeme_of, same_lexeme}
 use Rattle.ftn_tree.specs.Phrases.{Phrase, nothing, never, ◌·◌, mark, mark_at, name}
 use Rattle.ftn_tree.specs.SpecificationForms as form
-use Rattle.expr_parse.specs.Input.{Input, input, and_then, pure, sees, peek}
-use Rattle.expr_parse.specs.Combinators.{◌<$>◌}
+use Rattle.expr_parse.specs.steps.Input.{Input, input, and_then, pure, sees, peek}
+use Rattle.expr_parse.specs.steps.Combinators.{◌<$>◌}
 use Rattle.expr_parse.proofs.Pieces.{Piece, Took, Apart, begins, seq, reread}
 use Rattle.expr_parse.proofs.AllKinds.{apart, within}
 use Rattle.expr_parse.proofs.Tokens.{only, none_of, apart_none, mark_piece, name_piece, before_mark, bare_made, bare_back}

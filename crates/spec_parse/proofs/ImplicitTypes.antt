@@ -19,7 +19,7 @@ use Rattle.ftn_tree.specs.Phrases.{word, commas}
 use Rattle.ftn_tree.specs.TypeForms as text
 use Rattle.ftn_tree.specs.UnitForms as written
 use Rattle.ftn_tree.specs.UnitForms.{is_whole_at}
-use Rattle.expr_parse.specs.Input.{Input, input, sees_word}
+use Rattle.expr_parse.specs.steps.Input.{Input, input, sees_word}
 use Rattle.expr_parse.proofs.AllKinds.{apart}
 use Rattle.expr_parse.proofs.Lists.{list}
 use Rattle.expr_parse.proofs.Pieces.{Piece, Apart, begins, seq}

@@ -9,7 +9,7 @@ use Rattle.ftn_tree.specs.Misfits.{IsDeep, is_outside}
 use Rattle.ftn_tree.specs.Specifications.{is_specification}
 use Rattle.expr_parse.specs.declared.fault.StatementFault.{StatementFault}
 use Rattle.expr_parse.specs.declared.fault.StatementFault.TheVariants.{NotAStatement, OutOfProfile, TooDeep}
-use Rattle.expr_parse.specs.Input.{Input, input}
+use Rattle.expr_parse.specs.steps.Input.{Input, input}
 use Rattle.expr_parse.specs.Exact.{FitsNone, IsExact, misfit}
 use Rattle.expr_parse.proofs.Deep.{decided_deep, decided_shallow}
 use Rattle.spec_parse.specs.steps.Rows.{statement}

@@ -14,8 +14,8 @@ use Rattle.ftn_tree.specs.declared.parts.AttributeKind.{AttributeKind}
 use Rattle.ftn_tree.specs.declared.parts.AttributeKind.TheVariants as attr
 use Rattle.ftn_tree.specs.Phrases.{Phrase, never, ◌·◌, word, word_at, in_parens}
 use Rattle.ftn_tree.specs.SpecificationForms as form
-use Rattle.expr_parse.specs.Input.{Input, input, Reader, sees_word, and_then, pure}
-use Rattle.expr_parse.specs.Combinators.{◌<$>◌}
+use Rattle.expr_parse.specs.steps.Input.{Input, input, Reader, sees_word, and_then, pure}
+use Rattle.expr_parse.specs.steps.Combinators.{◌<$>◌}
 use Rattle.expr_parse.proofs.Pieces.{Piece, reread, mapped}
 use Rattle.expr_parse.proofs.Tokens.{none_of, word_piece, word_made, word_back, after_word}
 use Rattle.expr_parse.proofs.Operands.{ReadsExpressions}

@@ -19,7 +19,7 @@ use Rattle.ftn_tree.specs.Phrases.{Phrase}
 use Rattle.ftn_tree.specs.Grammar.{expr, Spells}
 use Rattle.ftn_tree.specs.TypeForms as form
 use Rattle.ftn_tree.proofs.Inverse.{tree_whole, tree_refer}
-use Rattle.expr_parse.specs.Input.{input, sees_word, peek_second}
+use Rattle.expr_parse.specs.steps.Input.{input, sees_word, peek_second}
 use Rattle.expr_parse.proofs.Pieces.{Apart, begins}
 use Rattle.expr_parse.proofs.AllKinds.{apart}
 use Rattle.expr_parse.proofs.Tokens.{only, is_same, same_is}

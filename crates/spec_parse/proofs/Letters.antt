@@ -10,7 +10,7 @@ use Rattle.ftn_tree.specs.declared.parts.LetterRange.{LetterRange}
 use Rattle.ftn_tree.specs.Lexemes.{lexeme_of, lexeme_by, same_lexeme}
 use Rattle.ftn_tree.specs.Phrases.{Phrase}
 use Rattle.ftn_tree.specs.UnitForms as written
-use Rattle.expr_parse.specs.Input.{Input}
+use Rattle.expr_parse.specs.steps.Input.{Input}
 use Rattle.expr_parse.proofs.AllKinds.{apart, within}
 use Rattle.expr_parse.proofs.Lists.{list}
 use Rattle.expr_parse.proofs.Pieces.{Piece, Apart, seq, option, mapped, reread}

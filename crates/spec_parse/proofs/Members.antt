@@ -13,7 +13,7 @@ use Rattle.ftn_tree.specs.declared.lexeme.Lexeme.TheVariants.{Word, Comma, Divid
 use Rattle.ftn_tree.specs.Lexemes.{lexeme_of, same_lexeme}
 use Rattle.ftn_tree.specs.Phrases.{Phrase, nothing, ◌·◌, mark, commas, after_commas}
 use Rattle.ftn_tree.specs.SpecificationForms as form
-use Rattle.expr_parse.specs.Input.{Input, input, Reader, ◌>>=◌, after, after_if, eat, sees, peek_second}
+use Rattle.expr_parse.specs.steps.Input.{Input, input, Reader, ◌>>=◌, after, after_if, eat, sees, peek_second}
 use Rattle.expr_parse.proofs.Pieces.{Piece, Took, Apart, begins, bind_some, bind_is, took_both, seq, mapped, reread}
 use Rattle.expr_parse.proofs.Tokens.{only, apart_none, name_piece, is_same}
 use Rattle.expr_parse.proofs.Lists.{took_mark}

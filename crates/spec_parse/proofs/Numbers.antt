@@ -12,8 +12,8 @@ use Rattle.ftn_tree.specs.Breaks.{number_of}
 use Rattle.ftn_tree.specs.Grammar.{IsNumber}
 use Rattle.ftn_tree.specs.Phrases.{Phrase}
 use Rattle.ftn_tree.specs.TypeForms as written
-use Rattle.expr_parse.specs.Input.{Input, input, Reader, and_then, pure, expect, sees, taken_if}
-use Rattle.expr_parse.specs.Reading.{whole_value, whole_at, constant_by, take_one, constant}
+use Rattle.expr_parse.specs.steps.Input.{Input, input, Reader, and_then, pure, expect, sees, taken_if}
+use Rattle.expr_parse.specs.steps.Reading.{whole_value, whole_at, constant_by, take_one, constant}
 use Rattle.expr_parse.proofs.Pieces.{Piece, reread}
 use Rattle.expr_parse.proofs.Tokens.{is_same}
 use Rattle.spec_parse.specs.steps.Implicits.{number_at, whole_number}

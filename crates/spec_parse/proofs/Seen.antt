@@ -9,7 +9,7 @@ use Rattle.ftn_tree.specs.declared.lexeme.Lexeme.{Lexeme}
 use Rattle.ftn_tree.specs.declared.lexeme.Lexeme.TheVariants.{Word}
 use Rattle.ftn_tree.specs.Lexemes.{lexeme_of, is_word, is_word_at}
 use Rattle.ftn_tree.specs.Phrases.{Phrase, ◌·◌, word, word_at}
-use Rattle.expr_parse.specs.Input.{input, holds_first, sees, sees_word}
+use Rattle.expr_parse.specs.steps.Input.{input, holds_first, sees, sees_word}
 use Rattle.expr_parse.proofs.Pieces.{Piece, Apart, begins, stops_before}
 use Rattle.expr_parse.proofs.Tokens.{only, none_of, word_kind, after_mark}
 

@@ -17,7 +17,7 @@ use Rattle.ftn_tree.specs.Phrases.{word, name, maybe}
 use Rattle.ftn_tree.specs.TypeForms.{type_text}
 use Rattle.ftn_tree.specs.SpecificationForms.{access_word, procedure_word}
 use Rattle.ftn_tree.specs.UnitForms.{unit_form_at}
-use Rattle.expr_parse.specs.Input.{Input, input}
+use Rattle.expr_parse.specs.steps.Input.{Input, input}
 use Rattle.expr_parse.proofs.Laws.{expression_laws}
 use Rattle.spec_parse.specs.declared.rows.Row.{Row}
 use Rattle.spec_parse.specs.declared.rows.Row.TheVariants as row

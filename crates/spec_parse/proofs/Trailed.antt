@@ -6,7 +6,7 @@ use Rattle.ftn_tree.specs.declared.lexeme.Lexeme.{Lexeme}
 use Rattle.ftn_tree.specs.declared.lexeme.Lexeme.TheVariants.{Word}
 use Rattle.ftn_tree.specs.Lexemes.{lexeme_of}
 use Rattle.ftn_tree.specs.Phrases.{Phrase, nothing, ◌·◌, word, whether}
-use Rattle.expr_parse.specs.Input.{Input, input, Reader, ◌>>◌, pure, expect_word}
+use Rattle.expr_parse.specs.steps.Input.{Input, input, Reader, ◌>>◌, pure, expect_word}
 use Rattle.expr_parse.proofs.Pieces.{Piece, Took, Apart, begins, begins_after, bind_some, bind_is, took_both}
 use Rattle.expr_parse.proofs.Tokens.{only, none_of, word_piece, word_made, word_back, word_kind}
 use Rattle.spec_parse.specs.steps.Choices.{trailed}

@@ -8,7 +8,7 @@ use Rattle.ftn_tree.specs.declared.form.Form.TheVariants as form
 use Rattle.ftn_tree.specs.declared.lexeme.Lexeme.TheVariants.{Word}
 use Rattle.ftn_tree.specs.Lexemes.{lexeme_of, is_word, same_lexeme}
 use Rattle.ftn_tree.specs.Phrases.{Phrase, ◌·◌, word, name, commas, maybe, in_parens, commas_or_none}
-use Rattle.expr_parse.specs.Input.{Input, input}
+use Rattle.expr_parse.specs.steps.Input.{Input, input}
 use Rattle.expr_parse.proofs.Tokens.{is_same}
 use Rattle.ftn_tree.specs.UnitForms as form_of
 use Rattle.spec_parse.specs.steps.Names.{dummies}

@@ -12,7 +12,7 @@ use Rattle.ftn_tree.specs.declared.parts.OnlyItem.{OnlyItem}
 use Rattle.ftn_tree.specs.Lexemes.{lexeme_of, is_word, same_lexeme}
 use Rattle.ftn_tree.specs.Phrases.{◌·◌, word, mark, name, after_commas, commas_or_none}
 use Rattle.ftn_tree.specs.UnitForms as written
-use Rattle.expr_parse.specs.Input.{Input, input}
+use Rattle.expr_parse.specs.steps.Input.{Input, input}
 use Rattle.expr_parse.proofs.Tokens.{is_same}
 use Rattle.spec_parse.specs.steps.Uses.{rename, only_item, renames, use_all, only_items, items_if_any, use_only, names_items, use_row}
 use Rattle.ftn_tree.proofs.PhraseLaws.{led_by}

@@ -5,7 +5,7 @@ use Rattle.ftn_tree.specs.declared.token.Token.{Token}
 use Rattle.ftn_tree.specs.declared.lexeme.Lexeme.{Lexeme}
 use Rattle.ftn_tree.specs.Lexemes.{lexeme_of}
 use Rattle.ftn_tree.specs.Phrases.{Phrase, token}
-use Rattle.expr_parse.specs.Input.{Input, input, Reader, and_then, ◌>>=◌, pure, refuse, expect, sees, taken_if}
+use Rattle.expr_parse.specs.steps.Input.{Input, input, Reader, and_then, ◌>>=◌, pure, refuse, expect, sees, taken_if}
 use Rattle.expr_parse.proofs.Pieces.{Piece, Took, begins}
 use Rattle.expr_parse.proofs.Tokens.{only, none_of, is_same}
 

@@ -1,9 +1,9 @@
 //! Statements that give one attribute (Fortran 90, 5.2, 12.3.2).
 
 ghost use Rattle.std.specs.Prelude.{◌≡◌};
-ghost use Rattle.expr_parse.specs.Combinators as shared;
-ghost use Rattle.expr_parse.specs.Input.{Gives};
-ghost use Rattle.expr_parse.specs.Input as input;
+ghost use Rattle.expr_parse.specs.steps.Combinators as shared;
+ghost use Rattle.expr_parse.specs.steps.Input.{Gives};
+ghost use Rattle.expr_parse.specs.steps.Input as input;
 ghost use Rattle.spec_parse.specs.steps.Lists as lists;
 ghost use Rattle.spec_parse.specs.steps.Attributes as spec;
 

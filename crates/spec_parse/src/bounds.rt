@@ -2,8 +2,8 @@
 
 ghost use Rattle.std.specs.Prelude.{◌≡◌};
 ghost use Rattle.ftn_tree.specs.SpecificationForms as form;
-ghost use Rattle.expr_parse.specs.Combinators as shared;
-ghost use Rattle.expr_parse.specs.Input.{Gives};
+ghost use Rattle.expr_parse.specs.steps.Combinators as shared;
+ghost use Rattle.expr_parse.specs.steps.Input.{Gives};
 ghost use Rattle.spec_parse.specs.steps.Bounds as spec;
 
 use expr_parse::{Cursor, Misfit, read_expression, separated};

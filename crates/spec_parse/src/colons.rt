@@ -1,7 +1,7 @@
 //! Lists that `::` may begin.
 
-ghost use Rattle.expr_parse.specs.Input.{Reader, Gives};
-ghost use Rattle.expr_parse.specs.Callable.{Reads};
+ghost use Rattle.expr_parse.specs.steps.Input.{Reader, Gives};
+ghost use Rattle.expr_parse.specs.steps.Callable.{Reads};
 ghost use Rattle.spec_parse.specs.steps.Lists as lists;
 
 use expr_parse::{Cursor, Misfit, separated};

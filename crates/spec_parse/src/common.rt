@@ -1,8 +1,8 @@
 //! COMMON and EQUIVALENCE (Fortran 90, 5.5).
 
 ghost use Rattle.std.specs.Prelude.{◌≡◌};
-ghost use Rattle.expr_parse.specs.Combinators as shared;
-ghost use Rattle.expr_parse.specs.Input.{Gives};
+ghost use Rattle.expr_parse.specs.steps.Combinators as shared;
+ghost use Rattle.expr_parse.specs.steps.Input.{Gives};
 ghost use Rattle.spec_parse.specs.steps.Blocks as spec;
 
 use crate::bounds::maybe_bounds;

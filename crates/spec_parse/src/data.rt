@@ -1,7 +1,7 @@
 //! DATA (Fortran 90, 5.2.9).
 
 ghost use Rattle.std.specs.Prelude.{◌≡◌};
-ghost use Rattle.expr_parse.specs.Input.{Gives};
+ghost use Rattle.expr_parse.specs.steps.Input.{Gives};
 ghost use Rattle.spec_parse.specs.steps.Data as spec;
 
 use crate::common::read_designators;

@@ -1,7 +1,7 @@
 //! Lists of names.
 
-ghost use Rattle.expr_parse.specs.Input.{Gives};
-ghost use Rattle.expr_parse.specs.Input as input;
+ghost use Rattle.expr_parse.specs.steps.Input.{Gives};
+ghost use Rattle.expr_parse.specs.steps.Input as input;
 ghost use Rattle.spec_parse.specs.steps.Names as spec;
 
 use expr_parse::{Cursor, Misfit, read_names};

@@ -2,8 +2,8 @@
 
 ghost use Rattle.std.specs.Prelude.{◌≡◌};
 ghost use Rattle.ftn_tree.specs.Lexemes.{is_text};
-ghost use Rattle.expr_parse.specs.Input.{Gives};
-ghost use Rattle.expr_parse.specs.Combinators.{to_the_end};
+ghost use Rattle.expr_parse.specs.steps.Input.{Gives};
+ghost use Rattle.expr_parse.specs.steps.Combinators.{to_the_end};
 ghost use Rattle.spec_parse.specs.steps.Rows as spec;
 
 use crate::attribute_statements::{access, dimension, external, intent, parameter, save};

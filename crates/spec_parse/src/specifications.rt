@@ -2,7 +2,7 @@
 
 ghost use Rattle.ftn_tree.specs.Specifications.{is_specification};
 ghost use Rattle.expr_parse.specs.Exact.{IsExact};
-ghost use Rattle.expr_parse.specs.Input.{tokens_in};
+ghost use Rattle.expr_parse.specs.steps.Input.{tokens_in};
 
 use crate::rows::read_statement;
 use expr_parse::{Cursor, Misfit, StatementFault, is_assignment, is_deep, misfit};

@@ -1,7 +1,7 @@
 //! Statements that begin program units, procedures and interface blocks, and CONTAINS (Fortran 90, 11, 12.3.2.1, 12.5.2).
 
 ghost use Rattle.std.specs.Prelude.{◌≡◌};
-ghost use Rattle.expr_parse.specs.Input.{Gives};
+ghost use Rattle.expr_parse.specs.steps.Input.{Gives};
 ghost use Rattle.spec_parse.specs.steps.Units as spec;
 
 use crate::names::read_dummies;

@@ -1,5 +1,5 @@
 //! `token_count`: the tokens, statements and lines of a Fortran text on standard input, or the first rule that it breaks.
-//! It is there to measure the scanner.
+//! It is there to measure the scanner. It promises nothing beyond what `free_scan::scan` does.
 #![tactic(auto)]
 
 use free_scan::{ScanFault, scan};

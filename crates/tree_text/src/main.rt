@@ -1,5 +1,7 @@
 //! `tree_text`: the tokens, statements and program units of a Fortran text on standard input, its names with what is said of them, its
 //! expressions with what their places want, or its first fault.
+//!
+//! What it shows is what the readers of `free_scan` and `unit_parse` gave; that it is printed rightly is shown by rows and not proved.
 #![tactic(auto)]
 
 ghost use Rattle.std.specs.Prelude.{◌<◌, ◌≤◌, ◌^◌, length};

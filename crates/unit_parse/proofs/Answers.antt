@@ -12,7 +12,7 @@ use Rattle.ftn_tree.specs.Nesting.{Row, spelled, held, IsFile, Nested, Begins}
 use Rattle.ftn_tree.specs.NestFaults.{is_body, titles, kind_in, IsUnfinished, IsNestFault}
 use Rattle.unit_parse.specs.declared.level.Level.{Level}
 use Rattle.unit_parse.specs.declared.frames.Frame.{Frame}
-use Rattle.unit_parse.specs.Following.{follow}
+use Rattle.unit_parse.specs.steps.Following.{follow}
 use Rattle.unit_parse.specs.Taking.{State, Outcome, Answer, start, allows, add, at_stage, placed, place, refused_kind, shut, ends_first, take, go_on, take_all, finished, finish_all, nest, is_too_deep, Finishes}
 use Rattle.unit_parse.specs.Answers.{Gives}
 use Rattle.unit_parse.specs.declared.fault.NestFault.{NestFault}

@@ -13,7 +13,7 @@ use Rattle.ftn_tree.specs.Regions.{region_of, depth, ends, in_order, opened, sec
 use Rattle.ftn_tree.specs.Nesting.{Row, none, stands, nest, spelled, heads, IsNested, may_stand}
 use Rattle.unit_parse.specs.declared.level.Level.{Level}
 use Rattle.unit_parse.specs.declared.frames.Frame.{Frame}
-use Rattle.unit_parse.specs.Following.{follow}
+use Rattle.unit_parse.specs.steps.Following.{follow}
 use Rattle.unit_parse.specs.Levels.{add_statement, add_nest}
 use Rattle.unit_parse.specs.Taking.{State, Outcome, start, path_of, allows, add, at_stage, placed, place, refused_kind, shut, close, take, go_on, take_all}
 use Rattle.unit_parse.proofs.Orders.{continues, order_step, order_none, followed}

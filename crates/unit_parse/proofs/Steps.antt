@@ -11,7 +11,7 @@ use Rattle.ftn_tree.specs.Regions.{depth, ends, in_order, sections_in}
 use Rattle.ftn_tree.specs.Nesting.{may_stand}
 use Rattle.unit_parse.specs.declared.level.Level.{Level}
 use Rattle.unit_parse.specs.declared.frames.Frame.{Frame}
-use Rattle.unit_parse.specs.Following.{follow}
+use Rattle.unit_parse.specs.steps.Following.{follow}
 use Rattle.unit_parse.specs.Levels.{add_statement, add_nest}
 use Rattle.unit_parse.specs.Taking.{State, path_of, allows, add, open_nest, placed, place, refused_kind, shut, take}
 use Rattle.unit_parse.proofs.Orders.{continues, order_step, followed}

@@ -7,7 +7,7 @@ use Rattle.ftn_tree.specs.declared.mark.Title.{Title}
 use Rattle.ftn_tree.specs.NestFaults.{Path, titles}
 use Rattle.unit_parse.specs.declared.level.Level.{Level}
 use Rattle.unit_parse.specs.declared.frames.Frame.{Frame}
-use Rattle.unit_parse.specs.Following.{follow}
+use Rattle.unit_parse.specs.steps.Following.{follow}
 use Rattle.unit_parse.specs.Taking.{State, Outcome, Answer, path_of, allows, add, at_stage, placed, place, refused_kind, shut, ends_first, close, take, go_on, take_all}
 use Rattle.unit_parse.specs.steps.Unclosed.{unclosed_from}
 use Rattle.unit_parse.proofs.Levels.{left}

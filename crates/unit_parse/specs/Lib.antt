@@ -1,6 +1,5 @@
 pub mod Answers
 pub mod Decided
-pub mod Following
 pub mod Levels
 pub mod Taking
 pub mod Parsing

@@ -16,7 +16,7 @@ use Rattle.unit_parse.specs.declared.level.Level.{Level}
 use Rattle.unit_parse.specs.declared.frames.Frame.{Frame}
 use Rattle.unit_parse.specs.declared.fault.NestFault.{NestFault}
 use Rattle.unit_parse.specs.declared.fault.NestFault.TheVariants as fault
-use Rattle.unit_parse.specs.Following.{follow}
+use Rattle.unit_parse.specs.steps.Following.{follow}
 use Rattle.unit_parse.specs.Levels as levels
 
 -- the innermost frame is the first

@@ -1,4 +1,9 @@
 //! Program units and constructs: how the statements of a file nest (Fortran 90, 2.3.1, 8.1, 11, 12.3.2.1, 12.5.2).
+//!
+//! `parse` gives the tree of a file or its first fault, `nest` and `Nesting` the same of statements that are read. Laws: no statement is
+//! both executable and another one, tokens have one form, statements nest in one way or have one fault, and a file and a text have one
+//! tree or one first fault. To be trusted are `Marks`, `Regions`, `Nesting`, `NestFaults` and `FileFaults` of `ftn_tree`, and `Answers`,
+//! `Parsing` and `Decided` here; `steps` serves proofs alone. Declarations aren't looked at here.
 #![tactic(auto)]
 
 mod fault;

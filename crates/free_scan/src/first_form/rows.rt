@@ -4,7 +4,7 @@ ghost use Rattle.std.specs.List.{slice_split};
 ghost use Rattle.std.specs.Option.{option_map};
 ghost use Rattle.std.specs.Prelude.{◌≡◌, map, filter, IfOk};
 ghost use Rattle.std.specs.Str.{bytes_eq};
-ghost use Rattle.free_scan.specs.Reading as spec;
+ghost use Rattle.free_scan.specs.steps.Reading as spec;
 ghost use Rattle.free_scan.specs.Spelling.{is_some_row, lexeme_of, number_of, rows_of};
 ghost use Rattle.free_scan.specs.Tokens.{is_line_end};
 

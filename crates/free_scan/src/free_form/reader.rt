@@ -4,9 +4,9 @@ ghost use Rattle.std.specs.Prelude.{◌≡◌, ◌<◌, ◌≤◌, ◌+◌, ◌^
 ghost use Rattle.ftn_tree.specs.Breaks.{line_breaches, long_line};
 ghost use Rattle.ftn_tree.specs.Lines.{Line};
 ghost use Rattle.ftn_tree.specs.Logical.{after_line, line_glyphs};
-ghost use Rattle.free_scan.specs.Firsts.{least};
-ghost use Rattle.free_scan.specs.LinesLeft as left;
-ghost use Rattle.free_scan.specs.Scanning as spec;
+ghost use Rattle.free_scan.specs.steps.Firsts.{least};
+ghost use Rattle.free_scan.specs.steps.LinesLeft as left;
+ghost use Rattle.free_scan.specs.steps.Scanning as spec;
 
 use crate::free_form::carried::{Carried, count_at, is_gap, open_at, said, skipped, stands_alone};
 use crate::free_form::firsts::Firsts;

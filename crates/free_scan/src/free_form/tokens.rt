@@ -7,10 +7,10 @@ ghost use Rattle.ftn_tree.specs.Breaks.{breaches_from, breaches_of, end_breaches
 ghost use Rattle.ftn_tree.specs.Lines.{code_lines, line_starts, lines_of};
 ghost use Rattle.ftn_tree.specs.Logical.{row_of};
 ghost use Rattle.ftn_tree.specs.Reading.{tokens_of};
-ghost use Rattle.free_scan.specs.Firsts.{least, IsFirstOf};
+ghost use Rattle.free_scan.specs.steps.Firsts.{least, IsFirstOf};
 ghost use Rattle.free_scan.specs.ScanFaults.{IsScanFault, HasTicked};
-ghost use Rattle.free_scan.specs.LinesLeft as left;
-ghost use Rattle.free_scan.specs.Scanning as spec;
+ghost use Rattle.free_scan.specs.steps.LinesLeft as left;
+ghost use Rattle.free_scan.specs.steps.Scanning as spec;
 
 use crate::free_form::carried::Carried;
 use crate::free_form::firsts::Firsts;

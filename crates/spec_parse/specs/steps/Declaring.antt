@@ -10,9 +10,9 @@ use Rattle.ftn_tree.specs.declared.parts.CharLength.{CharLength}
 use Rattle.ftn_tree.specs.declared.parts.EntityDecl.{EntityDecl}
 use Rattle.ftn_tree.specs.declared.lexeme.Lexeme.TheVariants as lexeme
 use Rattle.ftn_tree.specs.SpecificationForms.{is_declaration}
-use Rattle.expr_parse.specs.Input.{Reader, ◌>>◌, expect, name}
-use Rattle.expr_parse.specs.Combinators.{◌<$>◌, ◌⊗◌, option_if, each_after_comma}
-use Rattle.expr_parse.specs.Reading.{expression}
+use Rattle.expr_parse.specs.steps.Input.{Reader, ◌>>◌, expect, name}
+use Rattle.expr_parse.specs.steps.Combinators.{◌<$>◌, ◌⊗◌, option_if, each_after_comma}
+use Rattle.expr_parse.specs.steps.Reading.{expression}
 use Rattle.spec_parse.specs.steps.Choices.{checked}
 use Rattle.spec_parse.specs.steps.Types.{char_length}
 use Rattle.spec_parse.specs.steps.Bounds.{maybe_bounds}

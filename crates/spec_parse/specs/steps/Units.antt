@@ -6,8 +6,8 @@ use Rattle.ftn_tree.specs.declared.form.Form.TheVariants as form
 use Rattle.ftn_tree.specs.declared.lexeme.Lexeme.TheVariants as lexeme
 use Rattle.ftn_tree.specs.declared.parts.TypeSpec.{TypeSpec}
 use Rattle.ftn_tree.specs.Lexemes.{lexeme_of, is_word, same_lexeme}
-use Rattle.expr_parse.specs.Input.{Reader, ◌>>◌, expect_word, name}
-use Rattle.expr_parse.specs.Combinators.{◌<$>◌, ◌⊗◌, option_if, separated}
+use Rattle.expr_parse.specs.steps.Input.{Reader, ◌>>◌, expect_word, name}
+use Rattle.expr_parse.specs.steps.Combinators.{◌<$>◌, ◌⊗◌, option_if, separated}
 use Rattle.spec_parse.specs.steps.Names.{dummies, between_parens}
 use Rattle.spec_parse.specs.steps.Choices.{choose_by_word}
 

@@ -1,7 +1,7 @@
 use Rattle.ftn_tree.specs.ExecutableForms.{is_executable}
-use Rattle.expr_parse.specs.Input.{tokens_in}
+use Rattle.expr_parse.specs.steps.Input.{tokens_in}
 use Rattle.expr_parse.proofs.Laws.{expression_laws, reference_laws}
-use Rattle.exec_parse.specs.Executables as read
+use Rattle.exec_parse.specs.steps.Executables as read
 use Rattle.exec_parse.proofs.ExecutableLaws.{executable_sound, executable_complete}
 use Rattle.exec_parse.proofs.Judged.{answer_deep, answer_read, answer_misfit}
 use Rattle.exec_parse.proofs.executables.executable.Goals as goal

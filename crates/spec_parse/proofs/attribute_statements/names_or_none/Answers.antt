@@ -1,4 +1,4 @@
-use Rattle.expr_parse.specs.Input.{name}
+use Rattle.expr_parse.specs.steps.Input.{name}
 use Rattle.spec_parse.proofs.attribute_statements.names_or_none.Goals as goal
 
 pub returns : goal.returns

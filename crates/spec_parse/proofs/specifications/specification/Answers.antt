@@ -1,4 +1,4 @@
-use Rattle.expr_parse.specs.Input.{tokens_in}
+use Rattle.expr_parse.specs.steps.Input.{tokens_in}
 use Rattle.spec_parse.proofs.Judging.{answer_deep, answer_assignment, answer_read, answer_misfit}
 use Rattle.spec_parse.proofs.specifications.specification.Goals as goal
 

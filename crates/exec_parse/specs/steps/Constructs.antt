@@ -9,11 +9,11 @@ use Rattle.ftn_tree.specs.declared.parts.CaseRange.{CaseRange}
 use Rattle.ftn_tree.specs.declared.parts.CaseRange.TheVariants as range
 use Rattle.ftn_tree.specs.declared.parts.DoControl.{DoControl}
 use Rattle.ftn_tree.specs.Assignments.{is_assignment}
-use Rattle.expr_parse.specs.Input.{Input, Reader, ◌>>=◌, ◌>>◌, pure, eat, sees_word, expect, expect_word, name, after, peek, peek_second, is_done}
-use Rattle.expr_parse.specs.Combinators.{◌<$>◌, ◌⊗◌, option_if, separated}
-use Rattle.expr_parse.specs.Reading.{expression}
-use Rattle.exec_parse.specs.Lists.{condition}
-use Rattle.exec_parse.specs.Actions.{inner}
+use Rattle.expr_parse.specs.steps.Input.{Input, Reader, ◌>>=◌, ◌>>◌, pure, eat, sees_word, expect, expect_word, name, after, peek, peek_second, is_done}
+use Rattle.expr_parse.specs.steps.Combinators.{◌<$>◌, ◌⊗◌, option_if, separated}
+use Rattle.expr_parse.specs.steps.Reading.{expression}
+use Rattle.exec_parse.specs.steps.Lists.{condition}
+use Rattle.exec_parse.specs.steps.Actions.{inner}
 
 -- ---- IF
 

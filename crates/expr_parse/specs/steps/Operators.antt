@@ -5,7 +5,7 @@ use Rattle.ftn_tree.specs.declared.expr.Expr.TheVariants as e
 use Rattle.ftn_tree.specs.declared.lexeme.Lexeme.{Lexeme}
 use Rattle.ftn_tree.specs.declared.operator.Operator.TheVariants as operators
 use Rattle.ftn_tree.specs.Levels.{Binding, Prefix, between, before}
-use Rattle.expr_parse.specs.Input.{Input, peek}
+use Rattle.expr_parse.specs.steps.Input.{Input, peek}
 
 abbrev pub fits_between : ℕ → ℕ → Binding → Bool
 fits_between level own how = nat_le how.level level && nat_le own how.left

@@ -2,9 +2,9 @@
 use Rattle.std.specs.Prelude.{List, [], Option, Some, None}
 use Rattle.ftn_tree.specs.declared.expr.Expr.{Expr}
 use Rattle.ftn_tree.specs.declared.lexeme.Lexeme.TheVariants as lexeme
-use Rattle.expr_parse.specs.Input.{Reader, ◌>>=◌, ◌>>◌, pure, expect}
-use Rattle.expr_parse.specs.Combinators.{◌<$>◌, option_unless_done, separated, each_after_comma, list_in_parens}
-use Rattle.expr_parse.specs.Reading.{expression, reference}
+use Rattle.expr_parse.specs.steps.Input.{Reader, ◌>>=◌, ◌>>◌, pure, expect}
+use Rattle.expr_parse.specs.steps.Combinators.{◌<$>◌, option_unless_done, separated, each_after_comma, list_in_parens}
+use Rattle.expr_parse.specs.steps.Reading.{expression, reference}
 
 abbrev pub none_or_all : {A : Type 0} → Option (List A) → List A
 none_or_all None = []

@@ -11,9 +11,9 @@ use Rattle.ftn_tree.specs.declared.lexeme.Lexeme.TheVariants as lexeme
 use Rattle.ftn_tree.specs.Lexemes.{lexeme_of}
 use Rattle.ftn_tree.specs.Levels.{Binding, Prefix, loosest}
 use Rattle.ftn_tree.specs.Breaks.{number_of}
-use Rattle.expr_parse.specs.Input.{Reader, ◌>>=◌, ◌>>◌, pure, refuse, after, eat, sees, expect, name, peek}
-use Rattle.expr_parse.specs.Combinators.{◌<$>◌, each_after_comma_from, to_the_end}
-use Rattle.expr_parse.specs.Operators.{next_operator, next_sign, chained}
+use Rattle.expr_parse.specs.steps.Input.{Reader, ◌>>=◌, ◌>>◌, pure, refuse, after, eat, sees, expect, name, peek}
+use Rattle.expr_parse.specs.steps.Combinators.{◌<$>◌, each_after_comma_from, to_the_end}
+use Rattle.expr_parse.specs.steps.Operators.{next_operator, next_sign, chained}
 
 -- the number that digits mean, where it is small enough
 unfoldable pub whole_value : List ℕ → Option ℤ

@@ -5,8 +5,8 @@ use Rattle.ftn_base.specs.declared.name.Edition.{Edition}
 use Rattle.ftn_tree.specs.Breaks.{Breach, breaches_from, long_line}
 use Rattle.ftn_tree.specs.Lines.{Line, is_comment, is_line_feed, placed, without_return}
 use Rattle.ftn_tree.specs.Logical.{Carried, row_from}
-use Rattle.free_scan.specs.Firsts.{least}
-use Rattle.free_scan.specs.Scanning.{State, taken_all}
+use Rattle.free_scan.specs.steps.Firsts.{least}
+use Rattle.free_scan.specs.steps.Scanning.{State, taken_all}
 
 -- how many bytes stand before the next LF
 abbrev pub line_size : List ℕ → ℕ

@@ -3,7 +3,7 @@ use Rattle.std.specs.Prelude.{Result}
 use Rattle.std.specs.declared.alloc.Global.{Global}
 use denote.Ref.{MutBor}
 use Rattle.expr_parse.specs.declared.fault.Misfit.{Misfit}
-use Rattle.expr_parse.specs.Input.{Input, Reader, Gives}
+use Rattle.expr_parse.specs.steps.Input.{Input, Reader, Gives}
 
 -- each call gives what the reader gives
 abbrev pub Reads : {T : Type 0} → Reader T → (Global → MutBor Input → Result T Misfit → MutBor Input → Type 0) → Type 0

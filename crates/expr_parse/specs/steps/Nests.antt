@@ -4,8 +4,8 @@ use Rattle.std.specs.declared.alloc.Global.{Global}
 use denote.Ref.{MutBor}
 use Rattle.ftn_tree.specs.declared.expr.Expr.{Expr}
 use Rattle.expr_parse.specs.declared.fault.Misfit.{Misfit}
-use Rattle.expr_parse.specs.Input.{Input, Gives}
-use Rattle.expr_parse.specs.Reading.{read}
+use Rattle.expr_parse.specs.steps.Input.{Input, Gives}
+use Rattle.expr_parse.specs.steps.Reading.{read}
 
 pub record Nests (depth : ℕ) (pre : Global → MutBor Input → ℕ → ℕ → Type 0)
     (post : Global → MutBor Input → ℕ → ℕ → Result Expr Misfit → MutBor Input → Type 0) : Type 0 where

@@ -7,7 +7,7 @@ use Rattle.ftn_tree.specs.declared.token.Token.{Token}
 use Rattle.ftn_tree.specs.Breaks.{Breach, piece_breaches}
 use Rattle.ftn_tree.specs.Logical.{Glyph, byte, gap, cut}
 use Rattle.ftn_tree.specs.Reading.{over_run, token_of}
-use Rattle.free_scan.specs.Scanning.{new_range}
+use Rattle.free_scan.specs.steps.Scanning.{new_range}
 
 -- xs in front of the first list
 abbrev pub before_first_of : {X : Type 0} → List X → List (List X) → List (List X)

@@ -8,7 +8,7 @@ use Rattle.ftn_tree.specs.declared.piece.Spot.{Spot}
 use Rattle.ftn_tree.specs.Breaks.{Breach, piece_breaches}
 use Rattle.ftn_tree.specs.Logical.{Glyph, byte, gap, cut}
 use Rattle.ftn_tree.specs.Reading.{over_run, token_of}
-use Rattle.free_scan.specs.Firsts.{least}
+use Rattle.free_scan.specs.steps.Firsts.{least}
 
 -- the tokens so far, those of statements that ended, how many tokens these have, the run, and the first breach in pieces
 pub record State : Type 0 where

@@ -13,7 +13,7 @@ use Rattle.ftn_tree.specs.declared.piece.Spot.{Spot}
 use Rattle.ftn_tree.specs.Breaks.{Breach, number_of, only_if}
 use Rattle.ftn_tree.specs.Code.{is_outside, is_wrong, quote_after}
 use Rattle.ftn_tree.specs.Reading.{value_of}
-use Rattle.free_scan.specs.Scanning.{State}
+use Rattle.free_scan.specs.steps.Scanning.{State}
 
 -- where that quote is open: a byte that ends no statement, and may stand there
 abbrev pub is_plain : Option ℕ → ℕ → Bool

@@ -8,10 +8,10 @@ use Rattle.ftn_tree.specs.declared.parts.LeaveWord.{LeaveWord}
 use Rattle.ftn_tree.specs.declared.parts.LeaveWord.TheVariants as leave_words
 use Rattle.ftn_tree.specs.declared.parts.IoStyle.TheVariants as style
 use Rattle.ftn_tree.specs.Assignments.{is_assignment}
-use Rattle.expr_parse.specs.Input.{Reader, ◌>>◌, pure, sees, sees_word, expect, expect_word, name, peek_second}
-use Rattle.expr_parse.specs.Combinators.{◌<$>◌, ◌⊗◌, option_if, option_unless_done}
-use Rattle.expr_parse.specs.Reading.{expression, reference}
-use Rattle.exec_parse.specs.Lists.{arguments, items_after_star, variables_after_star, items, variables}
+use Rattle.expr_parse.specs.steps.Input.{Reader, ◌>>◌, pure, sees, sees_word, expect, expect_word, name, peek_second}
+use Rattle.expr_parse.specs.steps.Combinators.{◌<$>◌, ◌⊗◌, option_if, option_unless_done}
+use Rattle.expr_parse.specs.steps.Reading.{expression, reference}
+use Rattle.exec_parse.specs.steps.Lists.{arguments, items_after_star, variables_after_star, items, variables}
 
 unfoldable pub assignment : Reader Form
 assignment = (λ parts. form.Assign parts.0 parts.1) <$> reference ⊗ (expect lexeme.Equals >> expression)

@@ -2,10 +2,10 @@
 use Rattle.std.specs.Prelude.{◌||◌, if◌then◌else◌, codes}
 use Rattle.ftn_tree.specs.declared.form.Form.{Form}
 use Rattle.ftn_tree.specs.Assignments.{is_assignment}
-use Rattle.expr_parse.specs.Input.{Reader, sees_word}
-use Rattle.expr_parse.specs.Combinators.{to_the_end}
-use Rattle.exec_parse.specs.Actions.{assignment, action}
-use Rattle.exec_parse.specs.Constructs.{if_form, else_form, select, case_form, sees_label, do_form}
+use Rattle.expr_parse.specs.steps.Input.{Reader, sees_word}
+use Rattle.expr_parse.specs.steps.Combinators.{to_the_end}
+use Rattle.exec_parse.specs.steps.Actions.{assignment, action}
+use Rattle.exec_parse.specs.steps.Constructs.{if_form, else_form, select, case_form, sees_label, do_form}
 
 -- by the first word, where it is no construct name
 unfoldable pub statement : Reader Form
