@@ -5,7 +5,7 @@ use Rattle.ftn_tree.specs.declared.form.Form.{Form}
 use Rattle.ftn_tree.specs.ExecutableForms.{is_executable}
 use Rattle.expr_parse.specs.steps.Input.{input}
 use Rattle.expr_parse.proofs.Laws.{expression_laws, reference_laws}
-use Rattle.expr_parse.proofs.Pieces.{some_pair}
+use Rattle.std.proofs.lemmas.Option.{some_pair_parts}
 use Rattle.exec_parse.proofs.ExecutableLaws.{executable_complete}
 
 -- both are what is read
@@ -13,4 +13,4 @@ pub one_form : (one other : Form) (at : ℕ) (row : List Token) → is_executabl
 one_form one other at row says is =
     let last = input (at + length row) [] in
     let reads = executable_complete expression_laws reference_laws in
-    (some_pair one other last last (sym (reads one at row says) ∙ reads other at row is)).0
+    (some_pair_parts one other last last (sym (reads one at row says) ∙ reads other at row is)).0
