@@ -9,4 +9,4 @@ mod lists;
 mod loops;
 mod transfers;
 
-pub use executables::executable;
+pub use executables::{executable, fitting_executable};

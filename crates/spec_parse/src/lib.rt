@@ -17,4 +17,4 @@ mod types;
 mod units;
 mod uses;
 
-pub use specifications::specification;
+pub use specifications::{fitting_specification, specification};

@@ -3,6 +3,7 @@
 
 mod fault;
 mod files;
+mod forms;
 mod frames;
 mod laws;
 mod level;
