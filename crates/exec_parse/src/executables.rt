@@ -37,8 +37,9 @@ pub fn executable(alloc: Global, tokens: &Tokens, at: Range) -> Result<Form, Sta
     }
 }
 
-/// The executable statement that all tokens left are; [`Misfit::NoFit`] where they are none. `assigns` says whether they are an
-/// assignment by their shape. It sets no limit to nested parentheses: test them by [`is_deep`] first.
+/// The executable statement that exactly the tokens left are; `assigns` says whether they are an assignment by their shape. It fails
+/// with [`Misfit::NoFit`] where they are none. Neither the reason nor how deep parentheses nest is looked for: test depth by
+/// [`is_deep`] first.
 pub fn fitting_executable(
     alloc: Global,
     cursor: &mut Cursor<'_>,

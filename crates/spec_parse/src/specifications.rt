@@ -35,8 +35,9 @@ pub fn specification(alloc: Global, tokens: &Tokens, at: Range) -> Result<Form, 
     }
 }
 
-/// The same of all tokens left, which are no assignment by their shape; [`Misfit::NoFit`] where they are no such statement. It sets no
-/// limit to nested parentheses: test them by [`is_deep`] first.
+/// The statement of those that [`specification`] reads that exactly the tokens left are; they are no assignment by their shape. It
+/// fails with [`Misfit::NoFit`] where they are none. Neither the reason nor how deep parentheses nest is looked for: test depth by
+/// [`is_deep`] first.
 pub fn fitting_specification(alloc: Global, cursor: &mut Cursor<'_>) -> Result<Form, Misfit>
     requires { shapes.is_assignment cursor.old.rest ≡ false }
     ensures { IsFitting is_specification cursor.old.at cursor.old.rest result }
