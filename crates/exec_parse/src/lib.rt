@@ -15,5 +15,5 @@ mod lists;
 mod loops;
 mod transfers;
 
-pub use executables::executable;
+pub use executables::{executable, fitting_executable};
 pub use laws::one_executable;

@@ -19,3 +19,4 @@ pub mod CompleteLevels
 pub mod Laws
 pub mod Deep
 pub mod Judging
+pub mod Fitting

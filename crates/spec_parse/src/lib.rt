@@ -24,4 +24,4 @@ mod units;
 mod uses;
 
 pub use laws::one_specification;
-pub use specifications::specification;
+pub use specifications::{fitting_specification, specification};

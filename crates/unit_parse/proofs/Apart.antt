@@ -44,28 +44,12 @@ use Rattle.ftn_tree.specs.UnitForms as units
 use Rattle.ftn_tree.specs.Assignments.{IsAssignment}
 use Rattle.ftn_tree.specs.Specifications.{is_specification}
 use Rattle.ftn_tree.specs.ExecutableForms as exec
+use Rattle.unit_parse.specs.steps.Openings.{first_words, begins_with, first_colon, starts}
 
 -- ---- how tokens begin
 
-first_words : List (List ℕ)
-first_words =
-    codes "call" ∷ codes "exit" ∷ codes "cycle" ∷ codes "stop" ∷ codes "return" ∷ codes "continue" ∷ codes "print" ∷ codes "write" ∷ codes "read"
-    ∷ codes "if" ∷ codes "else" ∷ codes "elseif" ∷ codes "do" ∷ codes "select" ∷ codes "selectcase" ∷ codes "case" ∷ []
-
-abbrev begins_with : Token → List (List ℕ) → Bool
-begins_with here words = list_any (λ text. is_word text here) words
-
 abbrev is_one_of : List ℕ → List (List ℕ) → Bool
 is_one_of text words = list_any (λ other. is_text text other) words
-
-abbrev first_colon : List Token → Bool
-first_colon [] = false
-first_colon (here ∷ rest) = is_colon_at (lexeme_of here)
-
--- the first word of an executable statement, or a name before a colon
-abbrev starts : List Token → Bool
-starts [] = false
-starts (here ∷ rest) = begins_with here first_words || first_colon rest
 
 value_is : (kind : TokenKind) (value text other : List ℕ) → is_word_at kind value text ≡ true → is_word_at kind value other ≡ is_text text other
 value_is kinds.Word value text other e = ap (λ (v : List ℕ). is_text v other) ((bytes_eq-Decides value text).0 e)
@@ -358,7 +342,7 @@ unfolding first_words
 procedure_other procedures.External = refl
 procedure_other procedures.Intrinsic = refl
 
-specification_row : (form : FormLayer) → NoStart (units.unit_form_at form)
+pub specification_row : (form : FormLayer) → NoStart (units.unit_form_at form)
 unfolding first_words
 specification_row (Form-F.BlockData true n) =
     no_start (codes "blockdata") (word (codes "blockdata") · maybe name n) refl (row_of (codes "blockdata") (maybe name n) (free_maybe name lead_name n))
@@ -483,7 +467,7 @@ action_row (Form-F.Read style.Star items) = start_seq (word (codes "read")) (mar
 action_row (Form-F.Read style.Paren items) = start_seq (word (codes "read")) (exec.after_stars (commas_or_none reference items)) (start_word (codes "read") refl)
 action_row _ = λ at tokens says. absurd says
 
-statement_row : (form : FormLayer) → Start (exec.statement_at form)
+pub statement_row : (form : FormLayer) → Start (exec.statement_at form)
 unfolding first_words
 statement_row (Form-F.IfThen e) = start_seq (word (codes "if")) (exec.condition e · word (codes "then")) (start_word (codes "if") refl)
 statement_row (Form-F.ElseIf joined e) = start_seq (exec.else_if joined) (exec.condition e · word (codes "then")) (start_joined (codes "elseif") (codes "else") (codes "if") joined refl refl)

@@ -8,6 +8,7 @@
 
 mod fault;
 mod files;
+mod forms;
 mod frames;
 mod laws;
 mod level;
