@@ -1,5 +1,5 @@
 -- What fits all tokens of a statement, from the laws of its reader.
-use Rattle.std.proofs.Common.{◌≡◌, refl, sym, ◌∙◌, subst, ℕ, ◌+◌, Bool, List, [], ◌∷◌, length, Some, None, Ok, Err, if◌then◌else◌, Result}
+use Rattle.std.proofs.Common.{◌≡◌, refl, sym, ◌∙◌, subst, ℕ, ◌+◌, Bool, List, [], length, Some, None, Ok, Err, if◌then◌else◌, Result}
 use Rattle.std.proofs.lemmas.Option.{some_pair_parts}
 use Rattle.ftn_tree.specs.declared.token.Token.{Token}
 use Rattle.ftn_tree.specs.Phrases.{Phrase}

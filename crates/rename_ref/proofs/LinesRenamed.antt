@@ -138,14 +138,7 @@ onto_more b w (l ∷ ls) = refl
 
 -- bytes that are no LF stand in front of the first line
 lines_inside : (b : ℕ) (w u : List ℕ) → list_all in_comment (b ∷ w) ≡ true → lines ((b ∷ w) ++ u) ≡ onto_line (b ∷ w) (lines u)
-lines_inside b [] u a = let e : is_line_feed b ≡ false = feed b (and_parts (in_comment b) true a).0 in rw e (onto_byte b (lines u))
-  where
-    feed : (b : ℕ) → in_comment b ≡ true → is_line_feed b ≡ false
-    feed b h = go (is_line_feed b) h
-      where
-        go : (t : Bool) → not t ≡ true → t ≡ false
-        go true h = absurd cc
-        go false h = refl
+lines_inside b [] u a = let e : is_line_feed b ≡ false = not-true (is_line_feed b) (and_parts (in_comment b) true a).0 in rw e (onto_byte b (lines u))
 lines_inside b (c ∷ w) u a =
     let s = and_parts (in_comment b) (list_all in_comment (c ∷ w)) a in
     let e : is_line_feed b ≡ false = not-true (is_line_feed b) s.0 in

@@ -1,11 +1,11 @@
 -- Bounds are read as they are written.
-use Rattle.std.proofs.Common.{◌≡◌, refl, ◌∙◌, ℕ, List, ◌++◌, Option, Some, None, ◌⊎◌, inl, inr}
+use Rattle.std.proofs.Common.{◌≡◌, refl, ℕ, List, Option, Some, None, ◌⊎◌, inl, inr}
 use Rattle.ftn_tree.specs.declared.token.Token.{Token}
 use Rattle.ftn_tree.specs.declared.expr.Expr.{Expr}
 use Rattle.ftn_tree.specs.declared.parts.BoundPair.{BoundPair}
 use Rattle.ftn_tree.specs.declared.lexeme.Lexeme.TheVariants.{Open, Close, Comma, Colon, Times}
 use Rattle.ftn_tree.specs.Lexemes.{same_lexeme}
-use Rattle.ftn_tree.specs.Phrases.{◌·◌, mark_at}
+use Rattle.ftn_tree.specs.Phrases.{mark_at}
 use Rattle.ftn_tree.specs.Grammar.{expr}
 use Rattle.ftn_tree.specs.SpecificationForms as form
 use Rattle.ftn_tree.proofs.PhraseLaws.{drop_end, add_end}

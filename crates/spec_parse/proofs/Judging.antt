@@ -1,5 +1,5 @@
 -- What fits all tokens of a statement, from the laws of its reader.
-use Rattle.std.proofs.Common.{◌≡◌, sym, ◌∙◌, ℕ, ◌+◌, true, false, List, [], length, Result, Ok, Err, true≢false}
+use Rattle.std.proofs.Common.{◌≡◌, sym, ◌∙◌, ℕ, ◌+◌, false, List, [], length, Result, Ok, Err, true≢false}
 use Rattle.std.proofs.lemmas.Option.{some_pair_parts}
 use Rattle.ftn_tree.specs.declared.token.Token.{Token}
 use Rattle.ftn_tree.specs.declared.form.Form.{Form}

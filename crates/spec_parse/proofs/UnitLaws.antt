@@ -1,5 +1,5 @@
 -- The statements that begin program units, procedures and interface blocks are read as they are written.
-use Rattle.std.proofs.Common.{◌≡◌, refl, sym, ◌∙◌, ap, subst, ℕ, Bool, true, false, ◌&&◌, List, [], ◌∷◌, ◌++◌, Option, Some, codes}
+use Rattle.std.proofs.Common.{◌≡◌, refl, sym, ◌∙◌, ap, subst, ℕ, Bool, true, false, List, [], ◌∷◌, ◌++◌, Option, Some, codes}
 use Rattle.std.proofs.lemmas.Bool.{and_from}
 use denote.Hole.Carrier
 use Rattle.ftn_tree.specs.declared.token.Token.{Token}

@@ -1,5 +1,5 @@
 -- The one reader that is asked reads all statements of its tokens, and what is told of the others.
-use Rattle.std.proofs.Common.{◌≡◌, ◌⊎◌, sym, ◌∙◌, ℕ, true, false, List, Result, Ok, Err, inl, inr, true≢false}
+use Rattle.std.proofs.Common.{◌≡◌, sym, ◌∙◌, ℕ, true, false, List, Result, Ok, Err, inl, inr, true≢false}
 use Rattle.ftn_base.specs.declared.place.Range.{Range}
 use Rattle.ftn_tree.specs.declared.form.Form.{Form, out-Form}
 use Rattle.ftn_tree.specs.declared.form.Form.TheOpen.{Form-F}

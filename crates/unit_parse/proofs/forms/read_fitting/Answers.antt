@@ -1,7 +1,7 @@
 use Rattle.std.proofs.Common.{sym, ◌∙◌, ap}
 use Rattle.ftn_tree.specs.Assignments.{is_assignment}
 use Rattle.unit_parse.specs.steps.Openings.{starts}
-use Rattle.unit_parse.proofs.Misreads.{assigned_fits, started_fits, other_fits}
+use Rattle.unit_parse.proofs.Misreads.{started_fits, other_fits}
 use Rattle.unit_parse.proofs.forms.read_fitting.Goals as goal
 
 pub returns-then-begins_executable : goal.returns-then-begins_executable
