@@ -35,6 +35,7 @@ pub mod ProjectFaults
 pub mod ProjectLimits
 pub mod ListItems
 pub mod ListRecords
+pub mod Projects
 pub mod Extents
 pub mod Scopes
 pub mod ScopeLetters
