@@ -122,6 +122,6 @@ few_from (here ∷ rest) opened closed few =
     ∙ few_from rest (opened + one_if (is_open here)) (closed + one_if (is_close here)) more
 
 -- at most 200 tokens don't nest too deep
-pub few_shallow : (row : List Token) → length row ≤ 200 → false ≡ is_deep row
+pub few_shallow : (row : List Token) → length row ≤ most_parentheses → false ≡ is_deep row
 unfolding is_deep
 few_shallow row few = let less : 0 + length row ≤ most_parentheses + 0 = omega arith in sym (few_from row 0 0 less)

@@ -20,6 +20,9 @@ pub const MOST_CONSTRUCTS: usize = 100;
 /// How many files a project may have.
 pub const MOST_FILES: u32 = 4096;
 
+/// How many bytes the name of a file may have.
+pub const MOST_FILE_NAME_BYTES: usize = 255;
+
 /// How many bytes a file may have.
 pub const MOST_FILE_BYTES: u32 = 4_194_304;
 

@@ -3,6 +3,7 @@
 #![tactic(auto)]
 
 ghost use Rattle.std.specs.Prelude.{◌<◌, ◌≤◌, ◌^◌, length};
+ghost use Rattle.ftn_base.specs.Limits.{most_file_bytes};
 
 mod actions;
 mod data;
@@ -70,7 +71,7 @@ fn put_fault(
     kind: FaultKind,
     at: u32,
 ) -> Result<(), NoMemory>
-    requires { length text.now ≤ 4194304 }
+    requires { length text.now ≤ most_file_bytes }
 {
     join(out, b"fault")?;
     put(out, kind.name().as_bytes())?;
@@ -109,7 +110,7 @@ fn put_parsed(
     tokens: Tokens,
     shown: Shown,
 ) -> Result<Status, NoMemory>
-    requires short { length text.now ≤ 4194304 }
+    requires short { length text.now ≤ most_file_bytes }
     requires few { length tokens.statements < 2 ^ 32 }
 {
     match parse(alloc, tokens) {
