@@ -42,3 +42,4 @@ pub mod Exclusions
 pub mod GlobalNames
 pub mod DeclarationFaults
 pub mod DeclaredEntities
+pub mod Meanings
