@@ -204,10 +204,16 @@ access_of files e = record {
 abbrev pub names_in : List FileTree → Extent → List (List ℕ)
 names_in files e = once bytes_eq (map (λ (m : Mention). name_at files e.file m.token) (own_mentions files e))
 
-abbrev pub key_if_own : Extent → Meaning → Option Key
-key_if_own e (one (own home name)) = if same_extent home e then Some (own home name) else None
-key_if_own e (one (unit inner)) = Some (unit inner)
-key_if_own e _ = None
+-- the scoping unit that an entity belongs to, of a procedure its host
+abbrev pub home_of : List FileTree → Key → Option Extent
+home_of files (unit e) = host_of files e
+home_of files (own e name) = Some e
+home_of files _ = None
+
+-- an entity of its own: a procedure outside is none, whatever names it there
+abbrev pub key_if_own : List FileTree → Extent → Meaning → Option Key
+key_if_own files e (one key) = if is_some_extent e (home_of files key) then Some key else None
+key_if_own files e _ = None
 
 -- where an entity begins in its scoping unit
 abbrev pub begins_at : List FileTree → Extent → PairOf Key → ℕ
@@ -227,15 +233,15 @@ abbrev pub in_place : List FileTree → Extent → List (PairOf Key) → List (P
 in_place files e [] = []
 in_place files e (pair ∷ rest) = put_in_place files e pair (in_place files e rest)
 
-abbrev pub pair_if_own : Extent → List ℕ → Meaning → List (PairOf Key)
-pair_if_own e name meaning = option_map_or (λ key. (name, key) ∷ []) (key_if_own e meaning) []
+abbrev pub pair_if_own : List FileTree → Extent → List ℕ → Meaning → List (PairOf Key)
+pair_if_own files e name meaning = option_map_or (λ key. (name, key) ∷ []) (key_if_own files e meaning) []
 
 -- the names of procedures inside stand in their own openings
 abbrev pub names_said_in : List FileTree → Extent → List (List ℕ)
 names_said_in files e = once bytes_eq (map (λ (s : Saying). s.name) (filter declares (sayings files e)))
 
 abbrev pub declared_pairs : List FileTree → Extent → List (PairOf Key)
-declared_pairs files e = in_place files e (flat_map (λ name. pair_if_own e name (declared_in files e name)) (names_said_in files e))
+declared_pairs files e = in_place files e (flat_map (λ name. pair_if_own files e name (declared_in files e name)) (names_said_in files e))
 
 abbrev pub is_nothing : Meaning → Bool
 is_nothing nothing = true
@@ -244,7 +250,7 @@ is_nothing _ = false
 abbrev pub letter_pairs : List FileTree → List (PairOf Key) → Extent → Meaning → List ℕ → List (PairOf Key)
 letter_pairs files accessible e around name =
     if is_nothing (or_meaning (declared_in files e name) (or_meaning (used_meaning (keys_of name accessible)) around))
-    then pair_if_own e name (letter_meaning files e name) else []
+    then pair_if_own files e name (letter_meaning files e name) else []
 
 -- a module has no host
 abbrev pub own_pairs : List FileTree → List (PairOf Key) → Extent → List (PairOf Key)
