@@ -1,0 +1,16 @@
+pub mod Terms
+pub mod Actions
+pub mod Programs
+pub mod Ends
+pub mod Operations
+pub mod Intrinsics
+pub mod Contents
+pub mod Arrays
+pub mod Memory
+pub mod Holdings
+pub mod Entries
+pub mod States
+pub mod Input
+pub mod Values
+pub mod Statements
+pub mod Runs
