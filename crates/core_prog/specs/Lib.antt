@@ -14,3 +14,4 @@ pub mod Input
 pub mod Values
 pub mod Statements
 pub mod Runs
+pub mod Lasting

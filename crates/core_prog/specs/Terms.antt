@@ -45,7 +45,7 @@ mutual
     no_passed : Passed
     by_value : Term → Passed → Passed
     alone : Designator → Passed → Passed
-    onward : Designator → Passed → Passed
+    to_end : Designator → Passed → Passed
     constants : Named → Passed → Passed
 
 abbrev pub bound_of : Option Term → Bound
@@ -83,7 +83,7 @@ abbrev pub passed_step : Actuals-F Passed Term Terms Named Section Designator �
 passed_step Actuals-F.NoActuals = no_passed
 passed_step (Actuals-F.Value term rest) = by_value term rest
 passed_step (Actuals-F.Alone of rest) = alone of rest
-passed_step (Actuals-F.Onward of rest) = onward of rest
+passed_step (Actuals-F.Onward of rest) = to_end of rest
 passed_step (Actuals-F.Constants of rest) = constants of rest
 
 abbrev pub term_of : Expr → Term

@@ -10,10 +10,10 @@ use Rattle.core_prog.specs.Intrinsics.{intrinsic_of}
 use Rattle.core_prog.specs.Contents.{units_of}
 use Rattle.core_prog.specs.Arrays.{Axis, axis_from, elements, element, part}
 use Rattle.core_prog.specs.Memory.{Place, in_bounds, place_of, read_at}
-use Rattle.core_prog.specs.Programs.{Program}
+use Rattle.core_prog.specs.Programs.{Program, Procedure}
 use Rattle.core_prog.specs.Holdings.{holding, procedure}
 use Rattle.core_prog.specs.Entries.{Argument, units, own, entered, left, not_active, result_at}
-use Rattle.core_prog.specs.Terms.{Term, literal, paren, unary, binary, variable, constant, intrinsic, call, Terms, none, more, Designator, designator, Named, named, Section, no_section, section, Bound, no_bound, bound, Passed, no_passed, by_value, alone, onward, constants}
+use Rattle.core_prog.specs.Terms.{Term, literal, paren, unary, binary, variable, constant, intrinsic, call, Terms, none, more, Designator, designator, Named, named, Section, no_section, section, Bound, no_bound, bound, Passed, no_passed, by_value, alone, to_end, constants}
 use Rattle.core_prog.specs.States.{M, Way, ◌>>=◌, ◌>>◌, pure, tick, told, asks, remembers}
 
 -- characters of a value, from that one on
@@ -32,8 +32,13 @@ abbrev pub constants_of : Site → Value → List Axis → List ℤ → M Argume
 constants_of at v axes subscripts =
     told (in_bounds at (element (elements axes) axes subscripts)) >>= (λ n. pure (own v (elements axes - n)))
 
+-- 12.5.2.6: the exit, whose step comes before the result is read
+abbrev pub leaving : Program → Site → Procedure → ℕ → M (Option Value)
+leaving program at proc mark =
+    tick >> (asks (result_at program at proc.result) >>= (λ result. asks (λ memory. Ok (left mark memory)) >>= (λ outside. remembers outside >> pure result)))
+
 module _ (program : Program) (body : ℕ → M Way) where
-  -- the body between the entry, which takes a step first, and the exit, whose step comes before the result is read
+  -- what a procedure does from its entry to its exit
   abbrev pub entering : Site → ℕ → List Argument → M (Option Value)
   entering at number args = do
     proc ← told (procedure program number)
@@ -41,12 +46,9 @@ module _ (program : Program) (body : ℕ → M Way) where
     inside ← asks (entered program at number proc.dummies args)
     remembers inside
     body number
-    tick
-    result ← asks (result_at program at proc.result)
-    outside ← asks (λ memory. Ok (left mark memory))
-    remembers outside
-    pure result
+    leaving program at proc mark
 
+  -- a call: the procedure isn't active; the entry takes a step
   abbrev pub called : Site → ℕ → List Argument → M (Option Value)
   called at number args = asks (not_active at number) >> (tick >> entering at number args)
 
@@ -103,5 +105,5 @@ module _ (program : Program) (body : ℕ → M Way) where
     arguments_of no_passed = pure []
     arguments_of (by_value term rest) = value_of term >>= (λ v. arguments_of rest >>= (λ args. pure (own v 1 ∷ args)))
     arguments_of (alone of rest) = tick >> (place_at of >>= (λ p. arguments_of rest >>= (λ args. pure (units p.first p.units p.units ∷ args))))
-    arguments_of (onward of rest) = tick >> (place_at of >>= (λ p. arguments_of rest >>= (λ args. pure (units p.first p.behind p.unit ∷ args))))
+    arguments_of (to_end of rest) = tick >> (place_at of >>= (λ p. arguments_of rest >>= (λ args. pure (units p.first p.behind p.unit ∷ args))))
     arguments_of (constants of rest) = tick >> (constants_from of >>= (λ arg. arguments_of rest >>= (λ args. pure (arg ∷ args))))

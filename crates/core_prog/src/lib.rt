@@ -7,6 +7,7 @@
 
 mod expr;
 mod io;
+mod laws;
 mod outcome;
 mod program;
 mod site;
@@ -15,6 +16,7 @@ mod storage;
 
 pub use expr::{Actuals, ConstantRef, Expr, Exprs, Intrinsic, Substring, VariableRef};
 pub use io::{Inputs, Outputs};
+pub use laws::{a_run_is_one, more_steps_only_add, places_return, room_is_free, time_passes};
 pub use outcome::{FaultCode, Outcome};
 pub use program::{Core, Procedure};
 pub use site::Site;
