@@ -5,3 +5,7 @@ pub mod Passing
 pub mod Returning
 pub mod Adding
 pub mod MoreSteps
+pub mod Samples
+mod StepExamples
+mod InputExamples
+mod FaultExamples
