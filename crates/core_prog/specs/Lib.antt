@@ -15,3 +15,5 @@ pub mod Values
 pub mod Statements
 pub mod Runs
 pub mod Lasting
+pub mod Sorts
+pub mod Lawful
