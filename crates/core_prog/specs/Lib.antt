@@ -17,3 +17,8 @@ pub mod Runs
 pub mod Lasting
 pub mod Sorts
 pub mod Lawful
+pub mod Naming
+pub mod ResolvedTerms
+pub mod ResolvedActions
+pub mod ResolvedStorage
+pub mod Resolved
