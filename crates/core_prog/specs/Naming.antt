@@ -178,7 +178,7 @@ module _ (known : Known) where
   abbrev pub result_in : ℕ → Option ℕ
   result_in number =
       option_map_or (λ token. denoted (file_of (scope_opened number)) token) (answer_token (opening_of (scope_opened number)))
-        (if option_map_or (λ (e : Entity). is_function e.kind) (entity_at number) false then Some number else None)
+      (if option_map_or (λ (e : Entity). is_function e.kind) (entity_at number) false then Some number else None)
 
   abbrev pub opens_scope : ℕ → ℕ → Bool
   opens_scope scope number = is_procedure_entity number && option_map_or (λ own. own == scope) (option_and_then (λ (e : Entity). e.opens) (entity_at number)) false

@@ -21,7 +21,7 @@ abbrev pub Opened : Type 0
 Opened = ℕ × List BlockTree
 
 abbrev pub unit_step : Unit-F (List Opened) → List Opened
-unit_step u = (u.opening , u.body) ∷ flat_map (λ inner. inner) u.inner
+unit_step u = (u.opening, u.body) ∷ flat_map (λ inner. inner) u.inner
 
 abbrev pub opened_in : UnitTree → List Opened
 opened_in = fold-Unit (List Opened) unit_step

@@ -1,6 +1,6 @@
 -- Variables and areas of a resolved program (Fortran 90, 5.1, 5.2.4, 5.2.9, 14.6.3, 14.7.4): their places are those that were laid out; areas
 -- that aren't kept are emptied at the entry of their procedure; values are given by declarations and DATA.
-use Rattle.std.specs.Prelude.{ℕ, suc, ℤ, pos, neg_ℤ, ◌+◌, ◌*◌, ◌==◌, Bool, true, false, ◌&&◌, ◌||◌, not, if◌then◌else◌, List, [], ◌∷◌, map, flat_map, fold, zip, length, take, replicate, slice_get, position, sum, Option, Some, None}
+use Rattle.std.specs.Prelude.{ℕ, suc, ℤ, pos, neg_ℤ, ◌+◌, ◌*◌, ◌==◌, nat_lt, Bool, true, false, ◌&&◌, ◌||◌, not, if◌then◌else◌, List, [], ◌∷◌, map, flat_map, fold, zip, length, take, replicate, slice_get, position, sum, Option, Some, None}
 use Rattle.std.specs.Ordering.{int_eq}
 use Rattle.std.specs.List.{filter, find, list_any, range_with_len, enumerate_from}
 use Rattle.std.specs.Option.{option_map_or, option_and_then, unwrap_or}
@@ -81,12 +81,12 @@ Bounded = ℕ × List BoundPair
 
 -- bounds that stand behind the name come before those of the attribute
 abbrev pub entity_bounds : List Attribute → EntityDecl → Bounded
-entity_bounds attributes e = (e.name , unwrap_or e.bounds (attribute_bounds attributes))
+entity_bounds attributes e = (e.name, unwrap_or e.bounds (attribute_bounds attributes))
 
 -- the names to which a statement gives bounds, with the bounds
 abbrev pub bounds_said : Option FormLayer → List Bounded
 bounds_said (Some (Form-F.Declare ty attributes colons entities)) = map (entity_bounds attributes) entities
-bounds_said (Some (Form-F.Dimension colons arrays)) = map (λ (a : ArrayDecl). (a.name , a.bounds)) arrays
+bounds_said (Some (Form-F.Dimension colons arrays)) = map (λ (a : ArrayDecl). (a.name, a.bounds)) arrays
 bounds_said other = []
 
 -- a dummy argument as a bound, in parentheses or not
@@ -137,8 +137,9 @@ module _ (known : Known) where
   abbrev pub layers_in : ℕ → List (Option FormLayer)
   layers_in file = option_map_or (λ (tree : FileTree). map (layer_at known.files file) (range_with_len 0 (length tree.statements))) (slice_get known.files file) []
 
+  -- a name of the entity, with bounds
   abbrev pub is_token_of : ℕ → ℕ → Bounded → Bool
-  is_token_of file number one = option_map_or (λ other. other == number) (denoted known file one.0) false
+  is_token_of file number one = nat_lt 0 (length one.1) && option_map_or (λ other. other == number) (denoted known file one.0) false
 
   abbrev pub declared_bounds : ℕ → ℕ → List BoundPair
   declared_bounds file number = option_map_or (λ (one : Bounded). one.1) (find (is_token_of file number) (flat_map bounds_said (layers_in file))) []
@@ -177,7 +178,7 @@ module _ (known : Known) where
   abbrev pub home_in : Option ℕ → ℕ → Home
   home_in scope number =
       option_map_or (λ (place : ℕ × ℕ). home.Stored place.0 place.1 (option_and_then (procedure_of_scope known) scope)) (place_of number)
-        (home.Dummy (unwrap_or (option_and_then (procedure_of_scope known) scope) 0) (option_map_or (λ s. unwrap_or (position (λ one. one == number) (dummies_in known s)) 0) scope 0))
+      (home.Dummy (unwrap_or (option_and_then (procedure_of_scope known) scope) 0) (option_map_or (λ s. unwrap_or (position (λ one. one == number) (dummies_in known s)) 0) scope 0))
 
   abbrev pub variable_of : ℕ → Entity → Variable
   variable_of number e = record {
@@ -261,8 +262,8 @@ module _ (known : Known) where
 
   -- the elements of an object of DATA, by their places in array order
   abbrev pub elements_at : ℕ → ℕ → Option (List Expr) → List (ℕ × ℕ)
-  elements_at file number None = map (λ n. (number , n)) (range_with_len 0 (count_of number))
-  elements_at file number (Some subscripts) = (number , unwrap_or (place_in (map axis_from (bounds_of known number)) (wholes_in file subscripts)) 0) ∷ []
+  elements_at file number None = map (λ n. (number, n)) (range_with_len 0 (count_of number))
+  elements_at file number (Some subscripts) = (number, unwrap_or (place_in (map axis_from (bounds_of known number)) (wholes_in file subscripts)) 0) ∷ []
 
   abbrev pub data_elements : ℕ → List Designator → List (ℕ × ℕ)
   data_elements file ds = flat_map (λ (d : Designator). option_map_or (λ number. elements_at file number d.subscripts) (denoted known file d.name) []) ds
