@@ -2,6 +2,7 @@
 -- statements have the types and the numbers of arguments that they are to have.
 use Rattle.std.specs.Prelude.{◌≡◌, ◌≤◌, ◌<◌, ◌⊎◌, ℕ, suc, ◌+◌, ◌*◌, ◌^◌, Bool, true, false, not, ◌&&◌, ◌||◌, nat_lt, is_none, List, [], ◌∷◌, map, take, length, slice_get, sum_by, Option, Some, None}
 use Rattle.std.specs.List.{list_all}
+use Rattle.ftn_base.specs.Limits.{most_units_of_all}
 use Rattle.core_prog.specs.declared.storage.Area.{Area}
 use Rattle.core_prog.specs.declared.storage.Run as runs
 use Rattle.core_prog.specs.declared.storage.Dimension.{Dimension}
@@ -162,7 +163,7 @@ module _ (program : Program) where
 
 pub record IsLawful (program : Program) : Type 0 where
   pub areas : (number : ℕ) (area : Area) → slice_get program.areas number ≡ Some area → IsArea program number area
-  pub few : sum_by (λ (a : Area). a.size) program.areas ≤ 2 ^ 24
+  pub few : sum_by (λ (a : Area). a.size) program.areas ≤ most_units_of_all
   pub variables : (number : ℕ) (v : Variable) → slice_get program.variables number ≡ Some v → IsAtHome program number v v.home
   pub procedures : (number : ℕ) (proc : Procedure) → slice_get program.procedures number ≡ Some proc → IsProcedure program number proc
   pub statements : is_block program 0 false program.main ≡ true
