@@ -1,6 +1,6 @@
 -- Lawful programs (Fortran 90, 5.1.2, 7.5.1, 8.1, 12.4, 14.6.3): each number names what is there, each variable lies in its area, and
 -- statements have the types and the numbers of arguments that they are to have.
-use Rattle.std.specs.Prelude.{◌≡◌, ◌≤◌, ◌<◌, ◌⊎◌, ℕ, suc, ◌+◌, ◌*◌, ◌^◌, Bool, true, false, not, ◌&&◌, ◌||◌, nat_lt, is_none, List, [], ◌∷◌, map, take, length, slice_get, sum_by, Option, Some, None}
+use Rattle.std.specs.Prelude.{◌≡◌, ◌≤◌, ◌<◌, ◌⊎◌, ℕ, suc, ◌+◌, ◌*◌, Bool, true, false, not, ◌&&◌, ◌||◌, nat_lt, is_none, List, [], ◌∷◌, map, take, length, slice_get, sum_by, Option, Some, None}
 use Rattle.std.specs.List.{list_all}
 use Rattle.ftn_base.specs.Limits.{most_units_of_all}
 use Rattle.core_prog.specs.declared.storage.Area.{Area}
