@@ -45,3 +45,5 @@ pub mod GlobalNames
 pub mod DeclarationFaults
 pub mod DeclaredEntities
 pub mod Meanings
+pub mod Bindings
+pub mod NameFaults
