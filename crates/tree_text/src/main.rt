@@ -44,20 +44,30 @@ enum Shown {
     Both,
 }
 
+/// What this word asks for.
+fn shown_by(word: &[u8]) -> Option<Shown> {
+    if word == b"tokens".as_slice() {
+        Some(Shown::Tokens)
+    } else if word == b"statements".as_slice() {
+        Some(Shown::Statements)
+    } else if word == b"units".as_slice() {
+        Some(Shown::Units)
+    } else if word == b"names".as_slice() {
+        Some(Shown::Names)
+    } else if word == b"expressions".as_slice() {
+        Some(Shown::Expressions)
+    } else {
+        None
+    }
+}
+
 /// The one word that says what is shown; without a word it is statements and units. Nothing where the words are others.
 fn asked(rt: &HostRuntime) -> Option<Shown> {
     let mut buffer = [0u8; 16];
     let shown = match rt.arg(1, &mut buffer) {
         Err(FillError::NotPresent) => return Some(Shown::Both),
         Err(FillError::TooLong) => return None,
-        Ok(count) => match &buffer[..count] {
-            b"tokens" => Shown::Tokens,
-            b"statements" => Shown::Statements,
-            b"units" => Shown::Units,
-            b"names" => Shown::Names,
-            b"expressions" => Shown::Expressions,
-            _ => return None,
-        },
+        Ok(count) => shown_by(&buffer[..count])?,
     };
     match rt.arg(2, &mut buffer) {
         Err(FillError::NotPresent) => Some(shown),
@@ -72,7 +82,7 @@ fn put_fault(
     text: &[u8],
     kind: FaultKind,
     at: u32,
-) -> Result<(), NoMemory>
+) -> Result<Status, NoMemory>
     requires { length text.now ≤ most_file_bytes }
 {
     join(out, b"fault")?;
@@ -82,10 +92,11 @@ fn put_fault(
         out,
         line_and_column(text, (at as usize).min(text.len())),
     )?;
-    join(out, b"\n")
+    join(out, b"\n")?;
+    Ok(Status::BadProject)
 }
 
-fn put_tree(
+fn put_shown(
     alloc: Global,
     out: &mut Vec<u8>,
     tree: &FileTree,
@@ -104,6 +115,16 @@ fn put_tree(
     }
 }
 
+fn put_tree(
+    alloc: Global,
+    out: &mut Vec<u8>,
+    tree: &FileTree,
+    shown: Shown,
+) -> Result<Status, NoMemory> {
+    put_shown(alloc, out, tree, shown)?;
+    Ok(Status::Done)
+}
+
 /// Adds the tree that these tokens have, or the line of their first fault.
 fn put_parsed(
     alloc: Global,
@@ -116,15 +137,26 @@ fn put_parsed(
     requires few { length tokens.statements < 2 ^ 32 }
 {
     match parse(alloc, tokens) {
-        Ok(tree) => {
-            put_tree(alloc, out, &tree, shown)?;
-            Ok(Status::Done)
-        }
-        Err(ParseFault::At { kind, range }) => {
-            put_fault(alloc, out, text, kind, range.start)?;
-            Ok(Status::BadProject)
-        }
+        Ok(tree) => put_tree(alloc, out, &tree, shown),
+        Err(ParseFault::At { kind, range }) => put_fault(alloc, out, text, kind, range.start),
         Err(ParseFault::NoMemory) => Err(NoMemory),
+    }
+}
+
+/// Adds the tokens, or what is shown of their tree.
+fn put_scanned(
+    alloc: Global,
+    out: &mut Vec<u8>,
+    text: &[u8],
+    tokens: Tokens,
+    shown: Shown,
+) -> Result<Status, NoMemory>
+    requires short { length text.now ≤ 4194304 }
+    requires few { length tokens.statements < 2 ^ 32 }
+{
+    match shown {
+        Shown::Tokens => put_tokens(alloc, out, &tokens),
+        _ => put_parsed(alloc, out, text, tokens, shown),
     }
 }
 
@@ -140,19 +172,11 @@ fn put_text(
         return Ok(Status::Limit);
     }
     let mut steps = Steps::new(());
-    let tokens = match scan(alloc, text, Edition::F90, &mut steps) {
-        Ok(tokens) => tokens,
-        Err(ScanFault::At { kind, at }) => {
-            put_fault(alloc, out, text, kind, at)?;
-            return Ok(Status::BadProject);
-        }
-        Err(ScanFault::NoMemory) => return Err(NoMemory),
-    };
-    if matches!(shown, Shown::Tokens) {
-        put_tokens(alloc, out, &tokens)?;
-        return Ok(Status::Done);
+    match scan(alloc, text, Edition::F90, &mut steps) {
+        Ok(tokens) => put_scanned(alloc, out, text, tokens, shown),
+        Err(ScanFault::At { kind, at }) => put_fault(alloc, out, text, kind, at),
+        Err(ScanFault::NoMemory) => Err(NoMemory),
     }
-    put_parsed(alloc, out, text, tokens, shown)
 }
 
 /// Reads the text and writes what is shown of it.

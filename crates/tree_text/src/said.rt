@@ -1,7 +1,7 @@
 //! Names with what is said of them, and expressions with what their places want.
 
 use crate::expressions::put_expr;
-use crate::line::{join, place_of, put, put_comma, put_place, put_token};
+use crate::line::{join, place_of, put, put_comma, put_maybe, put_place, put_token};
 use ftn_base::NoMemory;
 use ftn_tree::{Mention, Placed, Role, Statement, Tokens, Want};
 use std::alloc::Global;
@@ -28,7 +28,7 @@ fn role_word(role: Role) -> &'static [u8] {
         Role::NamedMember => b"member of a named block",
         Role::Tied => b"tied",
         Role::Given => b"given",
-        other => other_word(other),
+        _ => other_word(role),
     }
 }
 
@@ -73,6 +73,29 @@ fn put_mention(
     join(out, b"\n")
 }
 
+fn put_each_mention(
+    alloc: Global,
+    out: &mut Vec<u8>,
+    tokens: &Tokens,
+    mentions: &[Mention],
+) -> Result<(), NoMemory> {
+    for mention in mentions {
+        put_mention(alloc, out, tokens, mention)?;
+    }
+    Ok(())
+}
+
+fn put_mentions_of(
+    alloc: Global,
+    out: &mut Vec<u8>,
+    tokens: &Tokens,
+    statement: &Statement,
+) -> Result<(), NoMemory> {
+    let mut mentions = Vec::new(alloc);
+    statement.form.push_mentions(alloc, &mut mentions)?;
+    put_each_mention(alloc, out, tokens, &mentions)
+}
+
 /// Adds a line for each name in the statements.
 pub fn put_mentions(
     alloc: Global,
@@ -81,31 +104,35 @@ pub fn put_mentions(
     statements: &[Statement],
 ) -> Result<(), NoMemory> {
     for statement in statements {
-        let mut mentions = Vec::new(alloc);
-        statement.form.push_mentions(alloc, &mut mentions)?;
-        for mention in &mentions {
-            put_mention(alloc, out, tokens, mention)?;
-        }
+        put_mentions_of(alloc, out, tokens, statement)?;
     }
     Ok(())
 }
 
-/// The word for what a place wants, and the token of the name that it belongs to, where there is one.
-fn want_word(want: Want) -> (&'static [u8], Option<u32>) {
+/// The word for what a place wants.
+fn want_word(want: Want) -> &'static [u8] {
     match want {
-        Want::Target => (b"target", None),
-        Want::Assigned => (b"assigned", None),
-        Want::Condition => (b"condition", None),
-        Want::Selector => (b"selector", None),
-        Want::Case => (b"case", None),
-        Want::Limit => (b"limit", None),
-        Want::Argument(name) => (b"argument of", Some(name)),
-        Want::Output => (b"output", None),
-        Want::Input => (b"input", None),
-        Want::Bound => (b"bound", None),
-        Want::Length => (b"length", None),
-        Want::Value(name) => (b"value of", Some(name)),
-        Want::Subscript(name) => (b"subscript of", Some(name)),
+        Want::Target => b"target",
+        Want::Assigned => b"assigned",
+        Want::Condition => b"condition",
+        Want::Selector => b"selector",
+        Want::Case => b"case",
+        Want::Limit => b"limit",
+        Want::Argument(_) => b"argument of",
+        Want::Output => b"output",
+        Want::Input => b"input",
+        Want::Bound => b"bound",
+        Want::Length => b"length",
+        Want::Value(_) => b"value of",
+        Want::Subscript(_) => b"subscript of",
+    }
+}
+
+/// The token of the name that a place belongs to, where there is one.
+fn want_name(want: Want) -> Option<u32> {
+    match want {
+        Want::Argument(name) | Want::Value(name) | Want::Subscript(name) => Some(name),
+        _ => None,
     }
 }
 
@@ -117,11 +144,8 @@ fn put_placed(
     placed: &Placed<'_>,
 ) -> Result<(), NoMemory> {
     put_place(alloc, out, place_of(tokens, placed.expr.first_token()))?;
-    let (word, name) = want_word(placed.want);
-    put(out, word)?;
-    if let Some(name) = name {
-        put_token(out, tokens, name)?;
-    }
+    put(out, want_word(placed.want))?;
+    put_maybe(out, tokens, want_name(placed.want))?;
     join(out, b":")?;
     put_expr(out, tokens, placed.expr)?;
     join(out, b"\n")
