@@ -151,7 +151,7 @@ fn put_scanned(
     tokens: Tokens,
     shown: Shown,
 ) -> Result<Status, NoMemory>
-    requires short { length text.now ≤ 4194304 }
+    requires short { length text.now ≤ most_file_bytes }
     requires few { length tokens.statements < 2 ^ 32 }
 {
     match shown {
