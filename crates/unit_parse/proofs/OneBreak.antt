@@ -1,7 +1,7 @@
 -- A text breaks one rule first, at one place.
 use Rattle.std.proofs.Common.{◌≡◌, ◌⊎◌, ℕ, ◌+◌, ◌<◌, ◌≤◌, Bool, true, false, ◌==◌, if◌then◌else◌, nat_lt, List, [], ◌∷◌, ◌++◌, length, map, take, drop, Option, Some, None, inl, inr, refl, sym, ◌∙◌, ap, subst, arith}
 use Rattle.std.specs.List.{flat_map}
-use Rattle.ftn_base.specs.Limits.{continuation_limit, name_limit}
+use Rattle.ftn_base.specs.Limits.{continuation_limit, greatest_integer, line_limit, name_limit}
 use Rattle.ftn_base.specs.declared.name.Edition.{Edition}
 use Rattle.ftn_base.specs.declared.fault.FaultKind.{FaultKind}
 use Rattle.ftn_base.specs.declared.fault.FaultKind.TheVariants as kinds
@@ -14,7 +14,7 @@ use Rattle.ftn_tree.specs.Code.{quote_after, is_outside, is_wrong}
 use Rattle.ftn_tree.specs.Logical.{Carried, stands_alone, skipped, open_at, text_of, count_at, after_line, row_of}
 use Rattle.ftn_tree.specs.Pieces.{Piece, pieces_of}
 use Rattle.ftn_tree.specs.Reading.{Cell, each_piece, over_cells, runs_of}
-use Rattle.ftn_tree.specs.Breaks.{Breach, only_if, line_limit, greatest, number_of, long_line, wrong_bytes, line_breaches, end_breaches, breaches_from, piece_breaches, breaches_of, rank, Among, IsBreak}
+use Rattle.ftn_tree.specs.Breaks.{Breach, only_if, number_of, long_line, wrong_bytes, line_breaches, end_breaches, breaches_from, piece_breaches, breaches_of, rank, Among, IsBreak}
 
 -- ---- the kinds of all breaches have ranks of their own
 
@@ -73,7 +73,7 @@ piece_ranked edition pieces.Blank bytes (first ∷ spots) = tt
 piece_ranked edition pieces.Stray bytes (first ∷ spots) = (refl, tt)
 piece_ranked edition pieces.Unclosed bytes (first ∷ spots) = (refl, tt)
 piece_ranked edition (pieces.Token tokens.Word) bytes (first ∷ spots) = only (nat_lt (name_limit edition) (length bytes)) (first.at, kinds.LongName) refl
-piece_ranked edition (pieces.Token tokens.Whole) bytes (first ∷ spots) = only (nat_lt greatest (number_of bytes)) (first.at, kinds.BigNumber) refl
+piece_ranked edition (pieces.Token tokens.Whole) bytes (first ∷ spots) = only (nat_lt greatest_integer (number_of bytes)) (first.at, kinds.BigNumber) refl
 piece_ranked edition (pieces.Token tokens.RealForm) bytes (first ∷ spots) = tt
 piece_ranked edition (pieces.Token tokens.Quoted) bytes (first ∷ spots) = tt
 piece_ranked edition (pieces.Token tokens.Dotted) bytes (first ∷ spots) = tt
