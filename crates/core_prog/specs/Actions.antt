@@ -8,7 +8,10 @@ use Rattle.core_prog.specs.declared.io.Outputs.{Outputs, fold-Outputs}
 use Rattle.core_prog.specs.declared.io.Inputs.TheOpen.{Inputs-F}
 use Rattle.core_prog.specs.declared.io.Outputs.TheOpen.{Outputs-F}
 use Rattle.core_prog.specs.declared.stmt.CaseValues.{CaseValues}
+use Rattle.core_prog.specs.declared.stmt.Stmt.{Stmt, fold-Stmt}
 use Rattle.core_prog.specs.declared.stmt.Stmts.{Stmts, fold-Stmts}
+use Rattle.core_prog.specs.declared.stmt.Arms.{Arms as ArmsOf, fold-Arms}
+use Rattle.core_prog.specs.declared.stmt.Cases.{Cases as CasesOf, fold-Cases}
 use Rattle.core_prog.specs.declared.stmt.Arms.TheOpen.{Arms-F, Cases-F, Stmt-F, Stmts-F}
 use Rattle.core_prog.specs.Terms.{Term, Passed, Designator, Bound, bound_of, term_of, passed_of, designator_of}
 
@@ -102,5 +105,14 @@ abbrev pub cases_step : Cases-F Arms Cases Action Block → Cases
 cases_step Cases-F.NoCases = no_cases
 cases_step (Cases-F.Case values body rest) = case values body rest
 
+abbrev pub action_of : Stmt → Action
+action_of = fold-Stmt Arms Cases Action Block arms_step cases_step action_step block_step
+
 abbrev pub block_of : Stmts → Block
 block_of = fold-Stmts Arms Cases Action Block arms_step cases_step action_step block_step
+
+abbrev pub arms_of : ArmsOf → Arms
+arms_of = fold-Arms Arms Cases Action Block arms_step cases_step action_step block_step
+
+abbrev pub cases_of : CasesOf → Cases
+cases_of = fold-Cases Arms Cases Action Block arms_step cases_step action_step block_step

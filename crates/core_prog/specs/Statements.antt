@@ -53,7 +53,7 @@ turn_count from to by = at_least_zero (int_div ((to -ℤ from) +ℤ by) by)
 abbrev pub not_zero : Site → ℤ → Result (Unit {0}) End
 not_zero at z = if unsigned_abs z == 0 then Err (Faulted code.Zero at) else Ok tt
 
--- 8.1.4.4.3: the DO variable grows
+-- 8.1.4.4.2: the DO variable grows
 abbrev pub grown : Site → Holding → ℤ → M (Unit {0})
 grown at h by = asks (read_at at (element_at h 0)) >>= (λ v. told (as_whole v) >>= (λ z. told (whole_at at (sum z by)) >>= puts (element_at h 0)))
 

@@ -26,7 +26,7 @@ pub enum Stmt {
         /// The right side.
         value: Expr,
     },
-    /// An assignment of a scalar to each element of a whole array (7.5.1.4).
+    /// An assignment of a scalar to each element of a whole array (7.5.1).
     Fill {
         /// The number of the array.
         variable: u32,
@@ -86,7 +86,7 @@ pub enum Stmt {
     Exit(u32),
     /// CYCLE (8.1.4.4.3) of the DO construct that has so many others between itself and the statement.
     Cycle(u32),
-    /// RETURN (12.5.2.6).
+    /// RETURN (12.5.2).
     Return,
     /// STOP (8.4), with or without a code.
     Stop,
