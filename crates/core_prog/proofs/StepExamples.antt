@@ -1,8 +1,9 @@
 -- Small programs, computed: the steps that each of them takes.
-use Rattle.std.specs.Prelude.{refl, pos, false, [], ◌∷◌, codes, Some, None}
+use Rattle.std.specs.Prelude.{◌≡◌, refl, pos, negsuc, false, [], ◌∷◌, codes, Some, None}
 use Rattle.std.specs.Fmt.{digits}
 use Rattle.ftn_base.specs.declared.entity.Ty.TheVariants as type
 use Rattle.ftn_base.specs.declared.entity.Length.TheVariants.{Fixed, Assumed}
+use Rattle.ftn_tree.specs.declared.value.Value.TheVariants as value
 use Rattle.ftn_tree.specs.declared.operator.Operator.TheVariants as op
 use Rattle.core_prog.specs.declared.expr.Intrinsic.TheVariants as function
 use Rattle.core_prog.specs.declared.outcome.Outcome.TheVariants as outcome
@@ -12,6 +13,7 @@ use Rattle.core_prog.specs.Terms.{literal, paren, variable, constant, intrinsic,
 use Rattle.core_prog.specs.Terms as term
 use Rattle.core_prog.specs.Actions as act
 use Rattle.core_prog.specs.Programs.{Program}
+use Rattle.core_prog.specs.Runs.{run}
 use Rattle.core_prog.proofs.Samples.{here, number, text, plain, at, of, one, two, area, units, stored, stored_at, dummy, bounds, range, procedure, main, block, result, lines, Takes}
 
 -- PRINT, and its node
@@ -282,6 +284,83 @@ whole_elements_in_15_steps : Takes whole_elements [] 14 (result outcome.Stop (li
 unfolding digits
 whole_elements_in_15_steps = (refl, refl)
 
+-- both operands of .AND. are evaluated, from left to right
+--   program p
+--     logical :: f
+--     external f
+--     print *, f(1) .and. f(2)
+--   end program p
+--   logical function f(n)
+--     integer :: n
+--     print *, n
+--     f = n > 1
+--   end function f
+abbrev both_operands : Program
+both_operands =
+    main ((stored type.Logical [] 0) ∷ (dummy type.Integer [] 0 0) ∷ [])
+    ((procedure (1 ∷ []) (Some 0) (block ((act.print (act.scalar (of 1) act.no_written)) ∷ (act.assign (plain 0) (two op.Gt (of 1) (number 1))) ∷ []))) ∷ [])
+    ((area 0 1 [] (Some 0)) ∷ [])
+    (block ((act.print (act.scalar (two op.And (term.call here 0 (by_value (number 1) no_passed)) (term.call here 0 (by_value (number 2) no_passed))) act.no_written)) ∷ []))
+
+both_operands_in_22_steps : Takes both_operands [] 21 (result outcome.Stop (lines ((codes " 1") ∷ (codes " 2") ∷ (codes " F") ∷ [])) 0)
+unfolding digits
+both_operands_in_22_steps = (refl, refl)
+
+-- an array that is a named constant gets a place of its own, with the elements from the named one on
+--   program p
+--     integer, parameter :: k(3) = 4
+--     call s(k(2))
+--     print *, k
+--   end program p
+--   subroutine s(b)
+--     integer :: b(2)
+--     b(1) = 1
+--     print *, b
+--   end subroutine s
+abbrev place_of_its_own : Program
+place_of_its_own =
+    main ((dummy type.Integer ((bounds (limit.Number (pos 1)) (limit.Number (pos 2))) ∷ []) 0 0) ∷ [])
+    ((procedure (0 ∷ []) None (block ((act.assign (at 0 (number 1)) (number 1)) ∷ (act.print (act.array here 0 act.no_written)) ∷ []))) ∷ [])
+    []
+    (block ((act.call here 0 (term.constants (named here (value.Whole (pos 4)) (((pos 1), (pos 3)) ∷ []) (more (number 2) none) no_section) no_passed)) ∷ (act.print (act.constants (value.Whole (pos 4)) (((pos 1), (pos 3)) ∷ []) act.no_written)) ∷ []))
+
+place_of_its_own_in_17_steps : Takes place_of_its_own [] 16 (result outcome.Stop (lines ((codes " 1 4") ∷ (codes " 4 4 4") ∷ [])) 0)
+unfolding digits
+place_of_its_own_in_17_steps = (refl, refl)
+
+-- the intrinsic functions
+--   program p
+--     print *, abs(-2), mod(-7, 3), sign(3, -1), min(3, 1, 2), max(3, 4)
+--     print *, len('ab '), len_trim('ab '), trim('ab ') // 'c', ichar('A'), char(66), index('abcab', 'ca')
+--   end program p
+abbrev intrinsic_functions : Program
+intrinsic_functions =
+    main []
+    []
+    []
+    (block ((act.print (act.scalar (intrinsic here function.Abs (more (one op.Minus (number 2)) none)) (act.scalar (intrinsic here function.Mod (more (one op.Minus (number 7)) (more (number 3) none))) (act.scalar (intrinsic here function.Sign (more (number 3) (more (one op.Minus (number 1)) none))) (act.scalar (intrinsic here function.Min (more (number 3) (more (number 1) (more (number 2) none)))) (act.scalar (intrinsic here function.Max (more (number 3) (more (number 4) none))) act.no_written)))))) ∷ (act.print (act.scalar (intrinsic here function.Len (more (text (codes "ab ")) none)) (act.scalar (intrinsic here function.LenTrim (more (text (codes "ab ")) none)) (act.scalar (two op.Concat (intrinsic here function.Trim (more (text (codes "ab ")) none)) (text (codes "c"))) (act.scalar (intrinsic here function.Ichar (more (text (codes "A")) none)) (act.scalar (intrinsic here function.Char (more (number 66) none)) (act.scalar (intrinsic here function.Index (more (text (codes "abcab")) (more (text (codes "ca")) none))) act.no_written))))))) ∷ []))
+
+intrinsic_functions_in_35_steps : Takes intrinsic_functions [] 34 (result outcome.Stop (lines ((codes " 2 -1 -3 1 4") ∷ (codes " 3 2 abc 65 B 3") ∷ [])) 0)
+unfolding digits
+intrinsic_functions_in_35_steps = (refl, refl)
+
+-- DATA gives initial values
+--   program p
+--     integer :: a(3), n
+--     data a, n / 2*7, -1, 5 /
+--     print *, a, n
+--   end program p
+abbrev given_by_data : Program
+given_by_data =
+    main ((stored type.Integer ((bounds (limit.Number (pos 1)) (limit.Number (pos 3))) ∷ []) 0) ∷ (stored type.Integer [] 1) ∷ [])
+    []
+    ((area 0 3 ((units 2 (content.Whole (pos 7))) ∷ (units 1 (content.Whole (negsuc 0))) ∷ []) None) ∷ (area 3 1 ((units 1 (content.Whole (pos 5))) ∷ []) None) ∷ [])
+    (block ((act.print (act.array here 0 (act.scalar (of 1) act.no_written))) ∷ []))
+
+given_by_data_in_6_steps : Takes given_by_data [] 5 (result outcome.Stop (lines ((codes " 7 7 -1 5") ∷ [])) 0)
+unfolding digits
+given_by_data_in_6_steps = (refl, refl)
+
 -- EQUIVALENCE: one storage unit
 --   program p
 --     integer :: i, a(2)
@@ -299,3 +378,7 @@ one_unit =
 one_unit_in_5_steps : Takes one_unit [] 4 (result outcome.Stop (lines ((codes " 5") ∷ [])) 0)
 unfolding digits
 one_unit_in_5_steps = (refl, refl)
+
+-- cut, it has printed nothing
+nothing_but_print_cut : (run nothing_but_print [] 0 ≡ result outcome.Spent [] 0) × (run nothing_but_print [] 1 ≡ result outcome.Spent [] 0)
+nothing_but_print_cut = (refl, refl)
