@@ -14,7 +14,7 @@ use Rattle.core_prog.specs.Terms.{literal, paren, variable, constant, intrinsic,
 use Rattle.core_prog.specs.Terms as term
 use Rattle.core_prog.specs.Actions as act
 use Rattle.core_prog.specs.Programs.{Program}
-use Rattle.core_prog.proofs.Samples.{here, number, plain, at, of, one, two, area, units, stored, dummy, bounds, procedure, main, block, result, line, lines, Takes}
+use Rattle.core_prog.proofs.Samples.{here, number, plain, at, of, one, two, area, units, stored, stored_at, dummy, bounds, procedure, main, block, result, line, lines, Takes}
 
 -- a unit that holds another type
 --   program p
@@ -27,9 +27,9 @@ use Rattle.core_prog.proofs.Samples.{here, number, plain, at, of, one, two, area
 --     i = 1
 --     print *, l
 --   end subroutine s
-abbrev integer_read_as_logical : Program
+abbrev pub integer_read_as_logical : Program
 integer_read_as_logical =
-    main ((stored type.Integer [] 0) ∷ (stored type.Logical [] 0) ∷ [])
+    main ((stored_at 0 (Some 0) type.Integer [] 0) ∷ (stored_at 0 (Some 0) type.Logical [] 0) ∷ [])
     ((procedure [] None (block ((act.assign (plain 0) (number 1)) ∷ (act.print (act.scalar (of 1) act.no_written)) ∷ []))) ∷ [])
     ((area 0 1 [] None) ∷ [])
     (block ((act.call here 0 no_passed) ∷ []))
@@ -49,9 +49,9 @@ integer_read_as_logical_in_6_steps = (refl, refl)
 --     if (first) n = 1
 --     print *, n
 --   end subroutine s
-abbrev emptied_at_entry : Program
+abbrev pub emptied_at_entry : Program
 emptied_at_entry =
-    main ((dummy type.Logical [] 0 0) ∷ (stored type.Integer [] 0) ∷ [])
+    main ((dummy type.Logical [] 0 0) ∷ (stored_at 0 (Some 0) type.Integer [] 0) ∷ [])
     ((procedure (0 ∷ []) None (block ((act.choose (act.arm (of 0) (block ((act.assign (plain 1) (number 1)) ∷ [])) act.no_arms) act.empty) ∷ (act.print (act.scalar (of 1) act.no_written)) ∷ []))) ∷ [])
     ((area 0 1 [] (Some 0)) ∷ [])
     (block ((act.call here 0 (by_value (literal (value.Truth true)) no_passed)) ∷ (act.call here 0 (by_value (literal (value.Truth false)) no_passed)) ∷ []))
@@ -64,7 +64,7 @@ emptied_at_entry_in_17_steps = (refl, refl)
 --   program p
 --     print *, 2147483647 + 1
 --   end program p
-abbrev sum_too_large : Program
+abbrev pub sum_too_large : Program
 sum_too_large =
     main []
     []
@@ -81,7 +81,7 @@ sum_too_large_in_4_steps = (refl, refl)
 --     do i = 2147483647, 2147483647
 --     end do
 --   end program p
-abbrev variable_too_large : Program
+abbrev pub variable_too_large : Program
 variable_too_large =
     main ((stored type.Integer [] 0) ∷ [])
     []
@@ -97,7 +97,7 @@ variable_too_large_in_4_steps = (refl, refl)
 --     integer :: n = 0
 --     print *, 1 / n
 --   end program p
-abbrev no_divisor : Program
+abbrev pub no_divisor : Program
 no_divisor =
     main ((stored type.Integer [] 0) ∷ [])
     []
@@ -114,7 +114,7 @@ no_divisor_in_4_steps = (refl, refl)
 --     do i = 1, 2, 0
 --     end do
 --   end program p
-abbrev no_increment : Program
+abbrev pub no_increment : Program
 no_increment =
     main ((stored type.Integer [] 0) ∷ [])
     []
@@ -130,7 +130,7 @@ no_increment_in_4_steps = (refl, refl)
 --     integer :: n = 0
 --     print *, n ** (-1)
 --   end program p
-abbrev zero_to_a_negative_power : Program
+abbrev pub zero_to_a_negative_power : Program
 zero_to_a_negative_power =
     main ((stored type.Integer [] 0) ∷ [])
     []
@@ -147,7 +147,7 @@ zero_to_a_negative_power_in_5_steps = (refl, refl)
 --     integer :: n = 0
 --     a(3) = 1 / n
 --   end program p
-abbrev element_out_of_range : Program
+abbrev pub element_out_of_range : Program
 element_out_of_range =
     main ((stored type.Integer ((bounds (limit.Number (pos 1)) (limit.Number (pos 2))) ∷ []) 0) ∷ (stored type.Integer [] 1) ∷ [])
     []
@@ -164,7 +164,7 @@ element_out_of_range_in_2_steps = (refl, refl)
 --     print *, c(3:2)
 --     print *, c(1:3)
 --   end program p
-abbrev substring_out_of_range : Program
+abbrev pub substring_out_of_range : Program
 substring_out_of_range =
     main ((stored (type.Character (Fixed 2)) [] 0) ∷ [])
     []
@@ -184,7 +184,7 @@ substring_out_of_range_in_8_steps = (refl, refl)
 --     integer :: b(2)
 --     b = 1
 --   end subroutine s
-abbrev too_few_units : Program
+abbrev pub too_few_units : Program
 too_few_units =
     main ((stored type.Integer ((bounds (limit.Number (pos 1)) (limit.Number (pos 2))) ∷ []) 0) ∷ (dummy type.Integer ((bounds (limit.Number (pos 1)) (limit.Number (pos 2))) ∷ []) 0 0) ∷ [])
     ((procedure (1 ∷ []) None (block ((act.fill 1 (number 1)) ∷ []))) ∷ [])
@@ -204,7 +204,7 @@ too_few_units_in_4_steps = (refl, refl)
 --     integer :: n, b(n)
 --     b = 1
 --   end subroutine s
-abbrev unknown_bound : Program
+abbrev pub unknown_bound : Program
 unknown_bound =
     main ((stored type.Integer ((bounds (limit.Number (pos 1)) (limit.Number (pos 2))) ∷ []) 0) ∷ (stored type.Integer [] 1) ∷ (dummy type.Integer ((bounds (limit.Number (pos 1)) (limit.Dummy 3)) ∷ []) 0 0) ∷ (dummy type.Integer [] 0 1) ∷ [])
     ((procedure (2 ∷ 3 ∷ []) None (block ((act.fill 2 (number 1)) ∷ []))) ∷ [])
@@ -223,7 +223,7 @@ unknown_bound_in_4_steps = (refl, refl)
 --     integer :: n
 --     call s(n + 1)
 --   end subroutine s
-abbrev calls_itself : Program
+abbrev pub calls_itself : Program
 calls_itself =
     main ((dummy type.Integer [] 0 0) ∷ [])
     ((procedure (0 ∷ []) None (block ((act.call here 0 (by_value (two op.Plus (of 0) (number 1)) no_passed)) ∷ []))) ∷ [])
@@ -239,7 +239,7 @@ calls_itself_in_7_steps = (refl, refl)
 --     integer :: n = 256
 --     print *, char(n)
 --   end program p
-abbrev no_byte : Program
+abbrev pub no_byte : Program
 no_byte =
     main ((stored type.Integer [] 0) ∷ [])
     []
@@ -255,7 +255,7 @@ no_byte_in_3_steps = (refl, refl)
 --     character(len=2) :: c = 'ab'
 --     print *, ichar(c)
 --   end program p
-abbrev no_one_character : Program
+abbrev pub no_one_character : Program
 no_one_character =
     main ((stored (type.Character (Fixed 2)) [] 0) ∷ [])
     []
@@ -275,9 +275,9 @@ no_one_character_in_3_steps = (refl, refl)
 --   integer function f()
 --     continue
 --   end function f
-abbrev result_not_given : Program
+abbrev pub result_not_given : Program
 result_not_given =
-    main ((stored type.Integer [] 0) ∷ [])
+    main ((stored_at 0 (Some 0) type.Integer [] 0) ∷ [])
     ((procedure [] (Some 0) (block (act.continue ∷ []))) ∷ [])
     ((area 0 1 [] (Some 0)) ∷ [])
     (block ((act.print (act.scalar (term.call here 0 no_passed) act.no_written)) ∷ []))
@@ -291,7 +291,7 @@ result_not_given_in_5_steps = (refl, refl)
 --     integer :: n
 --     read *, n
 --   end program p
-abbrev no_integer_item : Program
+abbrev pub no_integer_item : Program
 no_integer_item =
     main ((stored type.Integer [] 0) ∷ [])
     []
@@ -307,7 +307,7 @@ no_integer_item_in_3_steps = (refl, refl)
 --     integer :: n, k
 --     read *, n, k
 --   end program p
-abbrev no_more_records : Program
+abbrev pub no_more_records : Program
 no_more_records =
     main ((stored type.Integer [] 0) ∷ (stored type.Integer [] 1) ∷ [])
     []

@@ -15,7 +15,7 @@ use Rattle.core_prog.proofs.Samples.{here, plain, of, area, stored, bounds, main
 --     read *, n, a
 --     print *, a, n
 --   end program p
-abbrev items_of_two_records : Program
+abbrev pub items_of_two_records : Program
 items_of_two_records =
     main ((stored type.Integer [] 0) ∷ (stored type.Integer ((bounds (limit.Number (pos 1)) (limit.Number (pos 2))) ∷ []) 1) ∷ [])
     []
@@ -33,7 +33,7 @@ items_of_two_records_in_18_steps = (refl, refl)
 --     read *, n
 --     print *, n
 --   end program p
-abbrev record_skipped : Program
+abbrev pub record_skipped : Program
 record_skipped =
     main ((stored type.Integer [] 0) ∷ [])
     []
@@ -51,7 +51,7 @@ record_skipped_in_11_steps = (refl, refl)
 --     read *, c, l
 --     print *, c, l
 --   end program p
-abbrev texts_and_truths : Program
+abbrev pub texts_and_truths : Program
 texts_and_truths =
     main ((stored (type.Character (Fixed 2)) [] 0) ∷ (stored type.Logical [] 1) ∷ [])
     []

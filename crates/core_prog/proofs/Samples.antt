@@ -49,8 +49,8 @@ area start size initial emptied = record { start = start; size = size; initial =
 abbrev pub stored : Ty → List Dimension → ℕ → Variable
 stored ty dimensions number = record { ty = ty; dimensions = dimensions; home = home.Stored number 0 None }
 
-abbrev pub stored_at : ℕ → Ty → List Dimension → ℕ → Variable
-stored_at offset ty dimensions number = record { ty = ty; dimensions = dimensions; home = home.Stored number offset None }
+abbrev pub stored_at : ℕ → Option ℕ → Ty → List Dimension → ℕ → Variable
+stored_at offset owner ty dimensions number = record { ty = ty; dimensions = dimensions; home = home.Stored number offset owner }
 
 abbrev pub dummy : Ty → List Dimension → ℕ → ℕ → Variable
 dummy ty dimensions procedure position = record { ty = ty; dimensions = dimensions; home = home.Dummy procedure position }

@@ -20,7 +20,7 @@ use Rattle.core_prog.proofs.Samples.{here, number, text, plain, at, of, one, two
 --   program p
 --     print *, 1
 --   end program p
-abbrev nothing_but_print : Program
+abbrev pub nothing_but_print : Program
 nothing_but_print =
     main []
     []
@@ -40,7 +40,7 @@ nothing_but_print_in_2_steps = (refl, refl)
 --     v = v + 1
 --     print *, v
 --   end program p
-abbrev module_variable : Program
+abbrev pub module_variable : Program
 module_variable =
     main ((stored type.Integer [] 0) ∷ [])
     []
@@ -70,9 +70,9 @@ module_variable_in_6_steps = (refl, refl)
 --     call set_v(get_v() + 1)
 --     print *, get_v()
 --   end program p
-abbrev getter_and_setter : Program
+abbrev pub getter_and_setter : Program
 getter_and_setter =
-    main ((stored type.Integer [] 0) ∷ (stored type.Integer [] 1) ∷ (dummy type.Integer [] 1 0) ∷ [])
+    main ((stored type.Integer [] 0) ∷ (stored_at 0 (Some 0) type.Integer [] 1) ∷ (dummy type.Integer [] 1 0) ∷ [])
     ((procedure [] (Some 1) (block ((act.assign (plain 1) (of 0)) ∷ []))) ∷ (procedure (2 ∷ []) None (block ((act.assign (plain 0) (of 2)) ∷ []))) ∷ [])
     ((area 0 1 ((units 1 (content.Whole (pos 1))) ∷ []) None) ∷ (area 1 1 [] (Some 0)) ∷ [])
     (block ((act.call here 1 (by_value (two op.Plus (term.call here 0 no_passed) (number 1)) no_passed)) ∷ (act.print (act.scalar (term.call here 0 no_passed) act.no_written)) ∷ []))
@@ -85,7 +85,7 @@ getter_and_setter_in_18_steps = (refl, refl)
 --   program p
 --     print *, -7/2, -2**2, 7 - 2 - 1, 2**3**2
 --   end program p
-abbrev signs_and_powers : Program
+abbrev pub signs_and_powers : Program
 signs_and_powers =
     main []
     []
@@ -105,7 +105,7 @@ signs_and_powers_in_19_steps = (refl, refl)
 --     end do
 --     print *, c, c == 'abc ', i
 --   end program p
-abbrev counted_turns : Program
+abbrev pub counted_turns : Program
 counted_turns =
     main ((stored (type.Character (Fixed 3)) [] 0) ∷ (stored type.Integer [] 1) ∷ [])
     []
@@ -123,7 +123,7 @@ counted_turns_in_15_steps = (refl, refl)
 --       n = n - 1
 --     end do
 --   end program p
-abbrev tested_turns : Program
+abbrev pub tested_turns : Program
 tested_turns =
     main ((stored type.Integer [] 0) ∷ [])
     []
@@ -146,7 +146,7 @@ tested_turns_in_20_steps = (refl, refl)
 --     end do outer
 --     print *, i
 --   end program p
-abbrev left_turns : Program
+abbrev pub left_turns : Program
 left_turns =
     main ((stored type.Integer [] 0) ∷ [])
     []
@@ -163,7 +163,7 @@ left_turns_in_27_steps = (refl, refl)
 --     a = 7
 --     print *, a
 --   end program p
-abbrev array_of_one_value : Program
+abbrev pub array_of_one_value : Program
 array_of_one_value =
     main ((stored type.Integer ((bounds (limit.Number (pos 1)) (limit.Number (pos 2))) ∷ []) 0) ∷ [])
     []
@@ -185,7 +185,7 @@ array_of_one_value_in_8_steps = (refl, refl)
 --       print *, l
 --     end if
 --   end program p
-abbrev conditions_in_turn : Program
+abbrev pub conditions_in_turn : Program
 conditions_in_turn =
     main ((stored type.Logical [] 0) ∷ [])
     []
@@ -208,7 +208,7 @@ conditions_in_turn_in_6_steps = (refl, refl)
 --       stop
 --     end select
 --   end program p
-abbrev one_case : Program
+abbrev pub one_case : Program
 one_case =
     main ((stored type.Integer [] 0) ∷ [])
     []
@@ -231,7 +231,7 @@ one_case_in_3_steps = (refl, refl)
 --     integer :: n, k, b(n)
 --     b(2) = k
 --   end subroutine s
-abbrev units_of_an_array : Program
+abbrev pub units_of_an_array : Program
 units_of_an_array =
     main ((stored type.Integer ((bounds (limit.Number (pos 1)) (limit.Number (pos 4))) ∷ []) 0) ∷ (stored type.Integer [] 1) ∷ (dummy type.Integer ((bounds (limit.Number (pos 1)) (limit.Dummy 3)) ∷ []) 0 0) ∷ (dummy type.Integer [] 0 1) ∷ (dummy type.Integer [] 0 2) ∷ [])
     ((procedure (2 ∷ 3 ∷ 4 ∷ []) None (block ((act.assign (at 2 (number 2)) (of 4)) ∷ []))) ∷ [])
@@ -252,7 +252,7 @@ units_of_an_array_in_22_steps = (refl, refl)
 --     character(len=*) :: d
 --     d(len(d):) = 'x'
 --   end subroutine s
-abbrev length_of_the_argument : Program
+abbrev pub length_of_the_argument : Program
 length_of_the_argument =
     main ((stored (type.Character (Fixed 5)) [] 0) ∷ (dummy (type.Character Assumed) [] 0 0) ∷ [])
     ((procedure (1 ∷ []) None (block ((act.assign (designator here 1 none (section (bound (intrinsic here function.Len (more (of 1) none))) no_bound)) (text (codes "x"))) ∷ []))) ∷ [])
@@ -273,7 +273,7 @@ length_of_the_argument_in_12_steps = (refl, refl)
 --     integer :: b(2, *)
 --     print *, b(1, 3)
 --   end subroutine s
-abbrev whole_elements : Program
+abbrev pub whole_elements : Program
 whole_elements =
     main ((stored type.Integer ((bounds (limit.Number (pos 1)) (limit.Number (pos 5))) ∷ []) 0) ∷ (dummy type.Integer ((bounds (limit.Number (pos 1)) (limit.Number (pos 2))) ∷ (bounds (limit.Number (pos 1)) limit.Open) ∷ []) 0 0) ∷ [])
     ((procedure (1 ∷ []) None (block ((act.print (act.scalar (variable (designator here 1 (more (number 1) (more (number 3) none)) no_section)) act.no_written)) ∷ []))) ∷ [])
@@ -295,9 +295,9 @@ whole_elements_in_15_steps = (refl, refl)
 --     print *, n
 --     f = n > 1
 --   end function f
-abbrev both_operands : Program
+abbrev pub both_operands : Program
 both_operands =
-    main ((stored type.Logical [] 0) ∷ (dummy type.Integer [] 0 0) ∷ [])
+    main ((stored_at 0 (Some 0) type.Logical [] 0) ∷ (dummy type.Integer [] 0 0) ∷ [])
     ((procedure (1 ∷ []) (Some 0) (block ((act.print (act.scalar (of 1) act.no_written)) ∷ (act.assign (plain 0) (two op.Gt (of 1) (number 1))) ∷ []))) ∷ [])
     ((area 0 1 [] (Some 0)) ∷ [])
     (block ((act.print (act.scalar (two op.And (term.call here 0 (by_value (number 1) no_passed)) (term.call here 0 (by_value (number 2) no_passed))) act.no_written)) ∷ []))
@@ -317,7 +317,7 @@ both_operands_in_22_steps = (refl, refl)
 --     b(1) = 1
 --     print *, b
 --   end subroutine s
-abbrev place_of_its_own : Program
+abbrev pub place_of_its_own : Program
 place_of_its_own =
     main ((dummy type.Integer ((bounds (limit.Number (pos 1)) (limit.Number (pos 2))) ∷ []) 0 0) ∷ [])
     ((procedure (0 ∷ []) None (block ((act.assign (at 0 (number 1)) (number 1)) ∷ (act.print (act.array here 0 act.no_written)) ∷ []))) ∷ [])
@@ -333,7 +333,7 @@ place_of_its_own_in_17_steps = (refl, refl)
 --     print *, abs(-2), mod(-7, 3), sign(3, -1), min(3, 1, 2), max(3, 4)
 --     print *, len('ab '), len_trim('ab '), trim('ab ') // 'c', ichar('A'), char(66), index('abcab', 'ca')
 --   end program p
-abbrev intrinsic_functions : Program
+abbrev pub intrinsic_functions : Program
 intrinsic_functions =
     main []
     []
@@ -350,7 +350,7 @@ intrinsic_functions_in_35_steps = (refl, refl)
 --     data a, n / 2*7, -1, 5 /
 --     print *, a, n
 --   end program p
-abbrev given_by_data : Program
+abbrev pub given_by_data : Program
 given_by_data =
     main ((stored type.Integer ((bounds (limit.Number (pos 1)) (limit.Number (pos 3))) ∷ []) 0) ∷ (stored type.Integer [] 1) ∷ [])
     []
@@ -368,9 +368,9 @@ given_by_data_in_6_steps = (refl, refl)
 --     i = 5
 --     print *, a(2)
 --   end program p
-abbrev one_unit : Program
+abbrev pub one_unit : Program
 one_unit =
-    main ((stored_at 1 type.Integer [] 0) ∷ (stored type.Integer ((bounds (limit.Number (pos 1)) (limit.Number (pos 2))) ∷ []) 0) ∷ [])
+    main ((stored_at 1 None type.Integer [] 0) ∷ (stored type.Integer ((bounds (limit.Number (pos 1)) (limit.Number (pos 2))) ∷ []) 0) ∷ [])
     []
     ((area 0 2 [] None) ∷ [])
     (block ((act.assign (plain 0) (number 5)) ∷ (act.print (act.scalar (variable (at 1 (number 2))) act.no_written)) ∷ []))
