@@ -15,7 +15,7 @@ use Rattle.core_prog.specs.declared.stmt.CaseValues.{CaseValues}
 use Rattle.core_prog.specs.declared.storage.Home.TheVariants as home
 use Rattle.core_prog.specs.declared.storage.Variable.{Variable}
 use Rattle.core_prog.specs.Terms.{Term, Designator, literal, unary, binary, variable, none, more, designator, no_section}
-use Rattle.core_prog.specs.Actions.{Action, Block, empty, row}
+use Rattle.core_prog.specs.Actions.{Statement, Block, empty, row}
 use Rattle.core_prog.specs.Programs.{Program, Procedure}
 use Rattle.core_prog.specs.Runs.{run, Result}
 
@@ -70,7 +70,7 @@ procedure dummies result body = record { dummies = dummies; result = result; bod
 abbrev pub main : List Variable → List Procedure → List Area → Block → Program
 main variables procedures areas body = record { variables = variables; procedures = procedures; areas = areas; main = body }
 
-abbrev pub block : List Action → Block
+abbrev pub block : List Statement → Block
 block [] = empty
 block (a ∷ rest) = row a (block rest)
 
