@@ -14,7 +14,7 @@ use Rattle.core_prog.specs.Terms.{literal, paren, variable, constant, intrinsic,
 use Rattle.core_prog.specs.Terms as term
 use Rattle.core_prog.specs.Actions as act
 use Rattle.core_prog.specs.Programs.{Program}
-use Rattle.core_prog.proofs.Samples.{here, number, plain, at, of, one, two, area, units, stored, dummy, bounds, procedure, main, block, result, line, lines, Takes}
+use Rattle.core_prog.proofs.Samples.{here, number, plain, at, of, one, two, area, units, stored, stored_at, dummy, bounds, procedure, main, block, result, line, lines, Takes}
 
 -- a unit that holds another type
 --   program p
@@ -27,12 +27,12 @@ use Rattle.core_prog.proofs.Samples.{here, number, plain, at, of, one, two, area
 --     i = 1
 --     print *, l
 --   end subroutine s
-abbrev integer_read_as_logical : Program
+abbrev pub integer_read_as_logical : Program
 integer_read_as_logical =
-    main ((stored type.Integer [] 0) ∷ (stored type.Logical [] 0) ∷ [])
-    ((procedure [] None (block ((act.assign (plain 0) (number 1)) ∷ (act.print (act.scalar (of 1) act.no_written)) ∷ []))) ∷ [])
+    main ((stored_at 0 (Some 0) type.Integer [] 0) ∷ (stored_at 0 (Some 0) type.Logical [] 0) ∷ [])
+    ((procedure [] None (block ((act.does (act.assign (plain 0) (number 1))) ∷ (act.does (act.print (act.scalar (of 1) act.no_written))) ∷ []))) ∷ [])
     ((area 0 1 [] None) ∷ [])
-    (block ((act.call here 0 no_passed) ∷ []))
+    (block ((act.does (act.call here 0 no_passed)) ∷ []))
 
 integer_read_as_logical_in_6_steps : Takes integer_read_as_logical [] 5 (result (outcome.Fault code.Undefined) [] 0)
 unfolding digits
@@ -49,12 +49,12 @@ integer_read_as_logical_in_6_steps = (refl, refl)
 --     if (first) n = 1
 --     print *, n
 --   end subroutine s
-abbrev emptied_at_entry : Program
+abbrev pub emptied_at_entry : Program
 emptied_at_entry =
-    main ((dummy type.Logical [] 0 0) ∷ (stored type.Integer [] 0) ∷ [])
-    ((procedure (0 ∷ []) None (block ((act.choose (act.arm (of 0) (block ((act.assign (plain 1) (number 1)) ∷ [])) act.no_arms) act.empty) ∷ (act.print (act.scalar (of 1) act.no_written)) ∷ []))) ∷ [])
+    main ((dummy type.Logical [] 0 0) ∷ (stored_at 0 (Some 0) type.Integer [] 0) ∷ [])
+    ((procedure (0 ∷ []) None (block ((act.choose (act.arm (of 0) (block ((act.does (act.assign (plain 1) (number 1))) ∷ [])) act.no_arms) act.empty) ∷ (act.does (act.print (act.scalar (of 1) act.no_written))) ∷ []))) ∷ [])
     ((area 0 1 [] (Some 0)) ∷ [])
-    (block ((act.call here 0 (by_value (literal (value.Truth true)) no_passed)) ∷ (act.call here 0 (by_value (literal (value.Truth false)) no_passed)) ∷ []))
+    (block ((act.does (act.call here 0 (by_value (literal (value.Truth true)) no_passed))) ∷ (act.does (act.call here 0 (by_value (literal (value.Truth false)) no_passed))) ∷ []))
 
 emptied_at_entry_in_17_steps : Takes emptied_at_entry [] 16 (result (outcome.Fault code.Undefined) (lines ((codes " 1") ∷ [])) 0)
 unfolding digits
@@ -64,12 +64,12 @@ emptied_at_entry_in_17_steps = (refl, refl)
 --   program p
 --     print *, 2147483647 + 1
 --   end program p
-abbrev sum_too_large : Program
+abbrev pub sum_too_large : Program
 sum_too_large =
     main []
     []
     []
-    (block ((act.print (act.scalar (two op.Plus (number 2147483647) (number 1)) act.no_written)) ∷ []))
+    (block ((act.does (act.print (act.scalar (two op.Plus (number 2147483647) (number 1)) act.no_written))) ∷ []))
 
 sum_too_large_in_4_steps : Takes sum_too_large [] 3 (result (outcome.Fault code.Overflow) [] 0)
 unfolding digits
@@ -81,7 +81,7 @@ sum_too_large_in_4_steps = (refl, refl)
 --     do i = 2147483647, 2147483647
 --     end do
 --   end program p
-abbrev variable_too_large : Program
+abbrev pub variable_too_large : Program
 variable_too_large =
     main ((stored type.Integer [] 0) ∷ [])
     []
@@ -97,12 +97,12 @@ variable_too_large_in_4_steps = (refl, refl)
 --     integer :: n = 0
 --     print *, 1 / n
 --   end program p
-abbrev no_divisor : Program
+abbrev pub no_divisor : Program
 no_divisor =
     main ((stored type.Integer [] 0) ∷ [])
     []
     ((area 0 1 ((units 1 (content.Whole (pos 0))) ∷ []) None) ∷ [])
-    (block ((act.print (act.scalar (two op.Divide (number 1) (of 0)) act.no_written)) ∷ []))
+    (block ((act.does (act.print (act.scalar (two op.Divide (number 1) (of 0)) act.no_written))) ∷ []))
 
 no_divisor_in_4_steps : Takes no_divisor [] 3 (result (outcome.Fault code.Zero) [] 0)
 unfolding digits
@@ -114,7 +114,7 @@ no_divisor_in_4_steps = (refl, refl)
 --     do i = 1, 2, 0
 --     end do
 --   end program p
-abbrev no_increment : Program
+abbrev pub no_increment : Program
 no_increment =
     main ((stored type.Integer [] 0) ∷ [])
     []
@@ -130,12 +130,12 @@ no_increment_in_4_steps = (refl, refl)
 --     integer :: n = 0
 --     print *, n ** (-1)
 --   end program p
-abbrev zero_to_a_negative_power : Program
+abbrev pub zero_to_a_negative_power : Program
 zero_to_a_negative_power =
     main ((stored type.Integer [] 0) ∷ [])
     []
     ((area 0 1 ((units 1 (content.Whole (pos 0))) ∷ []) None) ∷ [])
-    (block ((act.print (act.scalar (two op.Power (of 0) (paren (one op.Minus (number 1)))) act.no_written)) ∷ []))
+    (block ((act.does (act.print (act.scalar (two op.Power (of 0) (paren (one op.Minus (number 1)))) act.no_written))) ∷ []))
 
 zero_to_a_negative_power_in_5_steps : Takes zero_to_a_negative_power [] 4 (result (outcome.Fault code.Zero) [] 0)
 unfolding digits
@@ -147,12 +147,12 @@ zero_to_a_negative_power_in_5_steps = (refl, refl)
 --     integer :: n = 0
 --     a(3) = 1 / n
 --   end program p
-abbrev element_out_of_range : Program
+abbrev pub element_out_of_range : Program
 element_out_of_range =
     main ((stored type.Integer ((bounds (limit.Number (pos 1)) (limit.Number (pos 2))) ∷ []) 0) ∷ (stored type.Integer [] 1) ∷ [])
     []
     ((area 0 2 [] None) ∷ (area 2 1 ((units 1 (content.Whole (pos 0))) ∷ []) None) ∷ [])
-    (block ((act.assign (at 0 (number 3)) (two op.Divide (number 1) (of 1))) ∷ []))
+    (block ((act.does (act.assign (at 0 (number 3)) (two op.Divide (number 1) (of 1)))) ∷ []))
 
 element_out_of_range_in_2_steps : Takes element_out_of_range [] 1 (result (outcome.Fault code.Bounds) [] 0)
 unfolding digits
@@ -164,12 +164,12 @@ element_out_of_range_in_2_steps = (refl, refl)
 --     print *, c(3:2)
 --     print *, c(1:3)
 --   end program p
-abbrev substring_out_of_range : Program
+abbrev pub substring_out_of_range : Program
 substring_out_of_range =
     main ((stored (type.Character (Fixed 2)) [] 0) ∷ [])
     []
     ((area 0 2 ((units 1 (content.Byte 97)) ∷ (units 1 (content.Byte 98)) ∷ []) None) ∷ [])
-    (block ((act.print (act.scalar (variable (designator here 0 none (section (bound (number 3)) (bound (number 2))))) act.no_written)) ∷ (act.print (act.scalar (variable (designator here 0 none (section (bound (number 1)) (bound (number 3))))) act.no_written)) ∷ []))
+    (block ((act.does (act.print (act.scalar (variable (designator here 0 none (section (bound (number 3)) (bound (number 2))))) act.no_written))) ∷ (act.does (act.print (act.scalar (variable (designator here 0 none (section (bound (number 1)) (bound (number 3))))) act.no_written))) ∷ []))
 
 substring_out_of_range_in_8_steps : Takes substring_out_of_range [] 7 (result (outcome.Fault code.Bounds) (lines ((codes " ") ∷ [])) 0)
 unfolding digits
@@ -184,12 +184,12 @@ substring_out_of_range_in_8_steps = (refl, refl)
 --     integer :: b(2)
 --     b = 1
 --   end subroutine s
-abbrev too_few_units : Program
+abbrev pub too_few_units : Program
 too_few_units =
     main ((stored type.Integer ((bounds (limit.Number (pos 1)) (limit.Number (pos 2))) ∷ []) 0) ∷ (dummy type.Integer ((bounds (limit.Number (pos 1)) (limit.Number (pos 2))) ∷ []) 0 0) ∷ [])
-    ((procedure (1 ∷ []) None (block ((act.fill 1 (number 1)) ∷ []))) ∷ [])
+    ((procedure (1 ∷ []) None (block ((act.does (act.fill 1 (number 1))) ∷ []))) ∷ [])
     ((area 0 2 [] None) ∷ [])
-    (block ((act.call here 0 (to_end (at 0 (number 2)) no_passed)) ∷ []))
+    (block ((act.does (act.call here 0 (to_end (at 0 (number 2)) no_passed))) ∷ []))
 
 too_few_units_in_4_steps : Takes too_few_units [] 3 (result (outcome.Fault code.Extent) [] 0)
 unfolding digits
@@ -204,12 +204,12 @@ too_few_units_in_4_steps = (refl, refl)
 --     integer :: n, b(n)
 --     b = 1
 --   end subroutine s
-abbrev unknown_bound : Program
+abbrev pub unknown_bound : Program
 unknown_bound =
     main ((stored type.Integer ((bounds (limit.Number (pos 1)) (limit.Number (pos 2))) ∷ []) 0) ∷ (stored type.Integer [] 1) ∷ (dummy type.Integer ((bounds (limit.Number (pos 1)) (limit.Dummy 3)) ∷ []) 0 0) ∷ (dummy type.Integer [] 0 1) ∷ [])
-    ((procedure (2 ∷ 3 ∷ []) None (block ((act.fill 2 (number 1)) ∷ []))) ∷ [])
+    ((procedure (2 ∷ 3 ∷ []) None (block ((act.does (act.fill 2 (number 1))) ∷ []))) ∷ [])
     ((area 0 2 [] None) ∷ (area 2 1 [] None) ∷ [])
-    (block ((act.call here 0 (to_end (plain 0) (alone (plain 1) no_passed))) ∷ []))
+    (block ((act.does (act.call here 0 (to_end (plain 0) (alone (plain 1) no_passed)))) ∷ []))
 
 unknown_bound_in_4_steps : Takes unknown_bound [] 3 (result (outcome.Fault code.Undefined) [] 0)
 unfolding digits
@@ -223,12 +223,12 @@ unknown_bound_in_4_steps = (refl, refl)
 --     integer :: n
 --     call s(n + 1)
 --   end subroutine s
-abbrev calls_itself : Program
+abbrev pub calls_itself : Program
 calls_itself =
     main ((dummy type.Integer [] 0 0) ∷ [])
-    ((procedure (0 ∷ []) None (block ((act.call here 0 (by_value (two op.Plus (of 0) (number 1)) no_passed)) ∷ []))) ∷ [])
+    ((procedure (0 ∷ []) None (block ((act.does (act.call here 0 (by_value (two op.Plus (of 0) (number 1)) no_passed))) ∷ []))) ∷ [])
     []
-    (block ((act.call here 0 (by_value (number 1) no_passed)) ∷ []))
+    (block ((act.does (act.call here 0 (by_value (number 1) no_passed))) ∷ []))
 
 calls_itself_in_7_steps : Takes calls_itself [] 6 (result (outcome.Fault code.Recursion) [] 0)
 unfolding digits
@@ -239,12 +239,12 @@ calls_itself_in_7_steps = (refl, refl)
 --     integer :: n = 256
 --     print *, char(n)
 --   end program p
-abbrev no_byte : Program
+abbrev pub no_byte : Program
 no_byte =
     main ((stored type.Integer [] 0) ∷ [])
     []
     ((area 0 1 ((units 1 (content.Whole (pos 256))) ∷ []) None) ∷ [])
-    (block ((act.print (act.scalar (intrinsic here function.Char (more (of 0) none)) act.no_written)) ∷ []))
+    (block ((act.does (act.print (act.scalar (intrinsic here function.Char (more (of 0) none)) act.no_written))) ∷ []))
 
 no_byte_in_3_steps : Takes no_byte [] 2 (result (outcome.Fault code.Range) [] 0)
 unfolding digits
@@ -255,12 +255,12 @@ no_byte_in_3_steps = (refl, refl)
 --     character(len=2) :: c = 'ab'
 --     print *, ichar(c)
 --   end program p
-abbrev no_one_character : Program
+abbrev pub no_one_character : Program
 no_one_character =
     main ((stored (type.Character (Fixed 2)) [] 0) ∷ [])
     []
     ((area 0 2 ((units 1 (content.Byte 97)) ∷ (units 1 (content.Byte 98)) ∷ []) None) ∷ [])
-    (block ((act.print (act.scalar (intrinsic here function.Ichar (more (of 0) none)) act.no_written)) ∷ []))
+    (block ((act.does (act.print (act.scalar (intrinsic here function.Ichar (more (of 0) none)) act.no_written))) ∷ []))
 
 no_one_character_in_3_steps : Takes no_one_character [] 2 (result (outcome.Fault code.Range) [] 0)
 unfolding digits
@@ -275,12 +275,12 @@ no_one_character_in_3_steps = (refl, refl)
 --   integer function f()
 --     continue
 --   end function f
-abbrev result_not_given : Program
+abbrev pub result_not_given : Program
 result_not_given =
-    main ((stored type.Integer [] 0) ∷ [])
-    ((procedure [] (Some 0) (block (act.continue ∷ []))) ∷ [])
+    main ((stored_at 0 (Some 0) type.Integer [] 0) ∷ [])
+    ((procedure [] (Some 0) (block ((act.does act.continue) ∷ []))) ∷ [])
     ((area 0 1 [] (Some 0)) ∷ [])
-    (block ((act.print (act.scalar (term.call here 0 no_passed) act.no_written)) ∷ []))
+    (block ((act.does (act.print (act.scalar (term.call here 0 no_passed) act.no_written))) ∷ []))
 
 result_not_given_in_5_steps : Takes result_not_given [] 4 (result (outcome.Fault code.Undefined) [] 0)
 unfolding digits
@@ -291,12 +291,12 @@ result_not_given_in_5_steps = (refl, refl)
 --     integer :: n
 --     read *, n
 --   end program p
-abbrev no_integer_item : Program
+abbrev pub no_integer_item : Program
 no_integer_item =
     main ((stored type.Integer [] 0) ∷ [])
     []
     ((area 0 1 [] None) ∷ [])
-    (block ((act.read here (act.one (plain 0) act.no_wanted)) ∷ []))
+    (block ((act.does (act.read here (act.one (plain 0) act.no_wanted))) ∷ []))
 
 no_integer_item_in_3_steps : Takes no_integer_item (line (codes "x")) 2 (result (outcome.Fault code.Input) [] 2)
 unfolding digits
@@ -307,12 +307,12 @@ no_integer_item_in_3_steps = (refl, refl)
 --     integer :: n, k
 --     read *, n, k
 --   end program p
-abbrev no_more_records : Program
+abbrev pub no_more_records : Program
 no_more_records =
     main ((stored type.Integer [] 0) ∷ (stored type.Integer [] 1) ∷ [])
     []
     ((area 0 1 [] None) ∷ (area 1 1 [] None) ∷ [])
-    (block ((act.read here (act.one (plain 0) (act.one (plain 1) act.no_wanted))) ∷ []))
+    (block ((act.does (act.read here (act.one (plain 0) (act.one (plain 1) act.no_wanted)))) ∷ []))
 
 no_more_records_in_4_steps : Takes no_more_records (line (codes "7")) 3 (result (outcome.Fault code.End) [] 2)
 unfolding digits

@@ -203,35 +203,38 @@ module _ (Sure : M Way → Type 0) (Rel : ℕ → (A : Type 0) → M A → M A �
     choice_kept true m m' n n' r q = r
     choice_kept false m m' n n' r q = q
 
+    act_kept : (a : act.Action) → Rel b Way (stmts.act program body a) (stmts.act program other a)
+    act_kept (act.assign target t) =
+        step_kept b _ _ (closed.binds b _ _ _ _ (place_kept target) (λ p. closed.binds b _ _ _ _ (value_kept t) (λ v. closed.binds b _ _ _ _ (closed.put b p v) (λ _. closed.pures b GoOn))))
+    act_kept (act.fill number t) =
+        step_kept b _ _ (closed.binds b _ _ _ _ (value_kept t) (λ v. closed.binds b _ _ _ _ (closed.asked b (holding program number)) (λ h. filled_kept h v 0 h.count)))
+    act_kept (act.call at number args) =
+        step_kept b _ _ (closed.binds b _ _ _ _ (arguments_kept args) (λ given.
+        closed.binds b _ _ _ _ (closed.calls b program body other at number given (sure number) (sure' number) (λ c h. below c h number)) (λ _. closed.pures b GoOn)))
+    act_kept (act.exit depth) = step_kept b _ _ (closed.pures b _)
+    act_kept (act.cycle depth) = step_kept b _ _ (closed.pures b _)
+    act_kept act.return = step_kept b _ _ (closed.pures b _)
+    act_kept act.stop = step_kept b _ _ (closed.stops b _)
+    act_kept act.continue = step_kept b _ _ (closed.pures b _)
+    act_kept (act.print items) = step_kept b _ _ (closed.binds b _ _ _ _ (written_kept items) (λ vs. closed.binds b _ _ _ _ (closed.emitted b _) (λ _. closed.pures b GoOn)))
+    act_kept (act.read at items) =
+        step_kept b _ _ (closed.binds b _ _ _ _ (wanted_kept items Nothing) (λ last.
+        closed.binds b _ _ _ _ (closed.inputs b (λ n. rest_of at n last) (λ n. rest_of at n last) (λ n. rest_kept at n last)) (λ _. closed.pures b GoOn)))
+
     mutual
-      act_kept : (a : act.Action) → Rel b Way (stmts.act program body a) (stmts.act program other a)
-      act_kept (act.assign target t) =
-          step_kept b _ _ (closed.binds b _ _ _ _ (place_kept target) (λ p. closed.binds b _ _ _ _ (value_kept t) (λ v. closed.binds b _ _ _ _ (closed.put b p v) (λ _. closed.pures b GoOn))))
-      act_kept (act.fill number t) =
-          step_kept b _ _ (closed.binds b _ _ _ _ (value_kept t) (λ v. closed.binds b _ _ _ _ (closed.asked b (holding program number)) (λ h. filled_kept h v 0 h.count)))
-      act_kept (act.call at number args) =
-          step_kept b _ _ (closed.binds b _ _ _ _ (arguments_kept args) (λ given.
-          closed.binds b _ _ _ _ (closed.calls b program body other at number given (sure number) (sure' number) (λ c h. below c h number)) (λ _. closed.pures b GoOn)))
-      act_kept (act.choose arms otherwise) = chosen_kept arms _ _ (block_kept otherwise)
-      act_kept (act.select t cases otherwise) = step_kept b _ _ (closed.binds b _ _ _ _ (whole_kept t) (λ z. selected_kept z cases _ _ (block_kept otherwise)))
-      act_kept (act.count at number from to by turn) =
+      perform_kept : (a : act.Statement) → Rel b Way (stmts.perform program body a) (stmts.perform program other a)
+      perform_kept (act.does action) = act_kept action
+      perform_kept (act.choose arms otherwise) = chosen_kept arms _ _ (block_kept otherwise)
+      perform_kept (act.select t cases otherwise) = step_kept b _ _ (closed.binds b _ _ _ _ (whole_kept t) (λ z. selected_kept z cases _ _ (block_kept otherwise)))
+      perform_kept (act.count at number from to by turn) =
           step_kept b _ _ (closed.binds b _ _ _ _ (whole_kept from) (λ x. closed.binds b _ _ _ _ (whole_kept to) (λ y. closed.binds b _ _ _ _ (bound_kept (pos 1) by) (λ z.
           counted_kept at number _ _ (block_kept turn) x y z))))
-      act_kept (act.while t turn) = step_kept b _ _ (closed.loops b _ _ _ _ (truth_kept t) (block_kept turn))
-      act_kept (act.forever turn) = step_kept b _ _ (closed.loops b _ _ _ _ (closed.pures b true) (block_kept turn))
-      act_kept (act.exit depth) = step_kept b _ _ (closed.pures b _)
-      act_kept (act.cycle depth) = step_kept b _ _ (closed.pures b _)
-      act_kept act.return = step_kept b _ _ (closed.pures b _)
-      act_kept act.stop = step_kept b _ _ (closed.stops b _)
-      act_kept act.continue = step_kept b _ _ (closed.pures b _)
-      act_kept (act.print items) = step_kept b _ _ (closed.binds b _ _ _ _ (written_kept items) (λ vs. closed.binds b _ _ _ _ (closed.emitted b _) (λ _. closed.pures b GoOn)))
-      act_kept (act.read at items) =
-          step_kept b _ _ (closed.binds b _ _ _ _ (wanted_kept items Nothing) (λ last.
-          closed.binds b _ _ _ _ (closed.inputs b (λ n. rest_of at n last) (λ n. rest_of at n last) (λ n. rest_kept at n last)) (λ _. closed.pures b GoOn)))
+      perform_kept (act.while t turn) = step_kept b _ _ (closed.loops b _ _ _ _ (truth_kept t) (block_kept turn))
+      perform_kept (act.forever turn) = step_kept b _ _ (closed.loops b _ _ _ _ (closed.pures b true) (block_kept turn))
 
       pub block_kept : (s : act.Block) → Rel b Way (block program body s) (block program other s)
       block_kept act.empty = closed.pures b GoOn
-      block_kept (act.row first rest) = closed.binds b _ _ _ _ (act_kept first) (onward_kept _ _ (block_kept rest))
+      block_kept (act.row first rest) = closed.binds b _ _ _ _ (perform_kept first) (onward_kept _ _ (block_kept rest))
 
       chosen_kept : (arms : act.Arms) (m m' : M Way) → Rel b Way m m' → Rel b Way (chosen program body arms m) (chosen program other arms m')
       chosen_kept act.no_arms m m' r = r

@@ -6,6 +6,7 @@ pub mod Returning
 pub mod Adding
 pub mod MoreSteps
 pub mod Samples
-mod StepExamples
+pub mod StepExamples
 mod InputExamples
 mod FaultExamples
+mod LawfulExample

@@ -15,7 +15,7 @@ use Rattle.core_prog.specs.declared.stmt.CaseValues.{CaseValues}
 use Rattle.core_prog.specs.declared.storage.Home.TheVariants as home
 use Rattle.core_prog.specs.declared.storage.Variable.{Variable}
 use Rattle.core_prog.specs.Terms.{Term, Designator, literal, unary, binary, variable, none, more, designator, no_section}
-use Rattle.core_prog.specs.Actions.{Action, Block, empty, row}
+use Rattle.core_prog.specs.Actions.{Statement, Block, empty, row}
 use Rattle.core_prog.specs.Programs.{Program, Procedure}
 use Rattle.core_prog.specs.Runs.{run, Result}
 
@@ -49,8 +49,8 @@ area start size initial emptied = record { start = start; size = size; initial =
 abbrev pub stored : Ty → List Dimension → ℕ → Variable
 stored ty dimensions number = record { ty = ty; dimensions = dimensions; home = home.Stored number 0 None }
 
-abbrev pub stored_at : ℕ → Ty → List Dimension → ℕ → Variable
-stored_at offset ty dimensions number = record { ty = ty; dimensions = dimensions; home = home.Stored number offset None }
+abbrev pub stored_at : ℕ → Option ℕ → Ty → List Dimension → ℕ → Variable
+stored_at offset owner ty dimensions number = record { ty = ty; dimensions = dimensions; home = home.Stored number offset owner }
 
 abbrev pub dummy : Ty → List Dimension → ℕ → ℕ → Variable
 dummy ty dimensions procedure position = record { ty = ty; dimensions = dimensions; home = home.Dummy procedure position }
@@ -70,7 +70,7 @@ procedure dummies result body = record { dummies = dummies; result = result; bod
 abbrev pub main : List Variable → List Procedure → List Area → Block → Program
 main variables procedures areas body = record { variables = variables; procedures = procedures; areas = areas; main = body }
 
-abbrev pub block : List Action → Block
+abbrev pub block : List Statement → Block
 block [] = empty
 block (a ∷ rest) = row a (block rest)
 

@@ -8,7 +8,12 @@ use Rattle.core_prog.specs.declared.io.Outputs.{Outputs, fold-Outputs}
 use Rattle.core_prog.specs.declared.io.Inputs.TheOpen.{Inputs-F}
 use Rattle.core_prog.specs.declared.io.Outputs.TheOpen.{Outputs-F}
 use Rattle.core_prog.specs.declared.stmt.CaseValues.{CaseValues}
+use Rattle.core_prog.specs.declared.stmt.Action.{Action as ActionOf}
+use Rattle.core_prog.specs.declared.stmt.Action.TheVariants as acts
+use Rattle.core_prog.specs.declared.stmt.Stmt.{Stmt, fold-Stmt}
 use Rattle.core_prog.specs.declared.stmt.Stmts.{Stmts, fold-Stmts}
+use Rattle.core_prog.specs.declared.stmt.Arms.{Arms as ArmsOf, fold-Arms}
+use Rattle.core_prog.specs.declared.stmt.Cases.{Cases as CasesOf, fold-Cases}
 use Rattle.core_prog.specs.declared.stmt.Arms.TheOpen.{Arms-F, Cases-F, Stmt-F, Stmts-F}
 use Rattle.core_prog.specs.Terms.{Term, Passed, Designator, Bound, bound_of, term_of, passed_of, designator_of}
 
@@ -25,28 +30,33 @@ pub data Wanted : Type 0 where
   one : Designator → Wanted → Wanted
   each : Site → ℕ → Wanted → Wanted
 
+-- action statements (2.1)
+pub data Action : Type 0 where
+  assign : Designator → Term → Action
+  fill : ℕ → Term → Action
+  call : Site → ℕ → Passed → Action
+  exit : ℕ → Action
+  cycle : ℕ → Action
+  return : Action
+  stop : Action
+  continue : Action
+  print : Written → Action
+  read : Site → Wanted → Action
+
 mutual
-  pub data Action : Type 0 where
-    assign : Designator → Term → Action
-    fill : ℕ → Term → Action
-    call : Site → ℕ → Passed → Action
-    choose : Arms → Block → Action
-    select : Term → Cases → Block → Action
+  -- action statements and constructs
+  pub data Statement : Type 0 where
+    does : Action → Statement
+    choose : Arms → Block → Statement
+    select : Term → Cases → Block → Statement
     -- the variable, its first value, what it goes to, what it grows by
-    count : Site → ℕ → Term → Term → Bound → Block → Action
-    while : Term → Block → Action
-    forever : Block → Action
-    exit : ℕ → Action
-    cycle : ℕ → Action
-    return : Action
-    stop : Action
-    continue : Action
-    print : Written → Action
-    read : Site → Wanted → Action
+    count : Site → ℕ → Term → Term → Bound → Block → Statement
+    while : Term → Block → Statement
+    forever : Block → Statement
 
   pub data Block : Type 0 where
     empty : Block
-    row : Action → Block → Block
+    row : Statement → Block → Block
 
   pub data Arms : Type 0 where
     no_arms : Arms
@@ -73,34 +83,46 @@ wanted_step (Inputs-F.Array at number rest) = each at number rest
 abbrev pub wanted_of : Inputs → Wanted
 wanted_of = fold-Inputs Wanted wanted_step
 
-abbrev pub action_step : Stmt-F Arms Cases Action Block → Action
-action_step (Stmt-F.Assign target value) = assign (designator_of target) (term_of value)
-action_step (Stmt-F.Fill number value) = fill number (term_of value)
-action_step (Stmt-F.Call at procedure args) = call at procedure (passed_of args)
-action_step (Stmt-F.If arms otherwise) = choose arms otherwise
-action_step (Stmt-F.Select selector cases otherwise) = select (term_of selector) cases otherwise
-action_step (Stmt-F.Count at number from to by body) = count at number (term_of from) (term_of to) (bound_of (option_map term_of by)) body
-action_step (Stmt-F.While condition body) = while (term_of condition) body
-action_step (Stmt-F.Forever body) = forever body
-action_step (Stmt-F.Exit depth) = exit depth
-action_step (Stmt-F.Cycle depth) = cycle depth
-action_step Stmt-F.Return = return
-action_step Stmt-F.Stop = stop
-action_step Stmt-F.Continue = continue
-action_step (Stmt-F.Print items) = print (written_of items)
-action_step (Stmt-F.Read at items) = read at (wanted_of items)
+abbrev pub action_of : ActionOf → Action
+action_of (acts.Assign target value) = assign (designator_of target) (term_of value)
+action_of (acts.Fill number value) = fill number (term_of value)
+action_of (acts.Call at procedure args) = call at procedure (passed_of args)
+action_of (acts.Exit depth) = exit depth
+action_of (acts.Cycle depth) = cycle depth
+action_of acts.Return = return
+action_of acts.Stop = stop
+action_of acts.Continue = continue
+action_of (acts.Print items) = print (written_of items)
+action_of (acts.Read at items) = read at (wanted_of items)
 
-abbrev pub block_step : Stmts-F Arms Cases Action Block → Block
+abbrev pub statement_step : Stmt-F Arms Cases Statement Block → Statement
+statement_step (Stmt-F.Action action) = does (action_of action)
+statement_step (Stmt-F.If arms otherwise) = choose arms otherwise
+statement_step (Stmt-F.Select selector cases otherwise) = select (term_of selector) cases otherwise
+statement_step (Stmt-F.Count at number from to by body) = count at number (term_of from) (term_of to) (bound_of (option_map term_of by)) body
+statement_step (Stmt-F.While condition body) = while (term_of condition) body
+statement_step (Stmt-F.Forever body) = forever body
+
+abbrev pub block_step : Stmts-F Arms Cases Statement Block → Block
 block_step Stmts-F.End = empty
 block_step (Stmts-F.More first rest) = row first rest
 
-abbrev pub arms_step : Arms-F Arms Cases Action Block → Arms
+abbrev pub arms_step : Arms-F Arms Cases Statement Block → Arms
 arms_step Arms-F.NoArms = no_arms
 arms_step (Arms-F.Arm condition body rest) = arm (term_of condition) body rest
 
-abbrev pub cases_step : Cases-F Arms Cases Action Block → Cases
+abbrev pub cases_step : Cases-F Arms Cases Statement Block → Cases
 cases_step Cases-F.NoCases = no_cases
 cases_step (Cases-F.Case values body rest) = case values body rest
 
+abbrev pub statement_of : Stmt → Statement
+statement_of = fold-Stmt Arms Cases Statement Block arms_step cases_step statement_step block_step
+
 abbrev pub block_of : Stmts → Block
-block_of = fold-Stmts Arms Cases Action Block arms_step cases_step action_step block_step
+block_of = fold-Stmts Arms Cases Statement Block arms_step cases_step statement_step block_step
+
+abbrev pub arms_of : ArmsOf → Arms
+arms_of = fold-Arms Arms Cases Statement Block arms_step cases_step statement_step block_step
+
+abbrev pub cases_of : CasesOf → Cases
+cases_of = fold-Cases Arms Cases Statement Block arms_step cases_step statement_step block_step

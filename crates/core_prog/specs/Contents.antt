@@ -1,4 +1,4 @@
--- What storage units hold, and values in them (Fortran 90, 14.6.3.1, 14.7, 7.5.1.4).
+-- What storage units hold, and values in them (Fortran 90, 14.6.3.1, 14.7, 7.5.1).
 use Rattle.std.specs.Prelude.{ℕ, ◌+◌, List, [], ◌∷◌, ◌++◌, map, length, take, drop, replicate, slice_set, Option, Some, None}
 use Rattle.std.specs.Option.{option_map}
 use Rattle.ftn_base.specs.declared.entity.Ty.{Ty}
@@ -20,7 +20,7 @@ value_in Logical (Truth truth ∷ contents) = Some (value.Truth truth)
 value_in (Character length) contents = option_map value.Chars (bytes_of contents)
 value_in other contents = None
 
--- 7.5.1.4: cut, or with blanks at its end
+-- 7.5.1: cut, or with blanks at its end
 abbrev pub fitted : ℕ → List ℕ → List ℕ
 fitted n text = take n (text ++ replicate n 32)
 

@@ -13,11 +13,11 @@ use Rattle.core_prog.specs.declared.outcome.FaultCode.TheVariants as code
 use Rattle.core_prog.specs.Ends.{End, Faulted, Cut}
 use Rattle.core_prog.specs.Operations.{whole_at}
 
--- MOD has the sign of its first argument (13.13.68)
+-- MOD has the sign of its first argument (13.13)
 abbrev pub remainder : ℤ → ℤ → Result ℤ ArithmeticFault
 remainder a b = if unsigned_abs b == 0 then Err arithmetic.Zero else kept (int_rem a b)
 
--- SIGN: the magnitude of the first, with the sign of the second (13.13.89)
+-- SIGN: the magnitude of the first, with the sign of the second (13.13)
 abbrev pub signed : ℤ → ℤ → ℤ
 signed a b = if int_le (pos 0) b then pos (unsigned_abs a) else neg_ℤ (pos (unsigned_abs a))
 
@@ -29,21 +29,21 @@ abbrev pub greater : ℤ → Value → ℤ
 greater most (Whole z) = if int_lt most z then z else most
 greater most other = most
 
--- TRIM: without the blanks at its end (13.13.107)
+-- TRIM: without the blanks at its end (13.13)
 abbrev pub trimmed : List ℕ → List ℕ
 trimmed text = take (length text - suffix_len (λ byte. byte == 32) text) text
 
--- INDEX: where a text first stands in another, from 1, or 0 (13.13.45)
+-- INDEX: where a text first stands in another, from 1, or 0 (13.13)
 abbrev pub index_from : ℕ → List ℕ → List ℕ → ℕ
 index_from at part [] = if bytes_eq part [] then at else 0
 index_from at part (byte ∷ text) = if bytes_eq (take (length part) (byte ∷ text)) part then at else index_from (at + 1) part text
 
--- ICHAR of one character (13.13.42)
+-- ICHAR of one character (13.13)
 abbrev pub code_at : Site → List ℕ → Result Value End
 code_at at (byte ∷ []) = Ok (Whole (pos byte))
 code_at at other = Err (Faulted code.Range at)
 
--- CHAR of a byte (13.13.17)
+-- CHAR of a byte (13.13)
 abbrev pub char_at : Site → ℤ → Result Value End
 char_at at z = if int_le (pos 0) z then (if int_lt z (pos 256) then Ok (Chars (unsigned_abs z ∷ [])) else Err (Faulted code.Range at)) else Err (Faulted code.Range at)
 

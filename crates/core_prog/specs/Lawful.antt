@@ -14,7 +14,7 @@ use Rattle.core_prog.specs.declared.storage.Variable.{Variable}
 use Rattle.core_prog.specs.Arrays.{elements}
 use Rattle.core_prog.specs.Holdings.{unit_of, fixed_axis}
 use Rattle.core_prog.specs.Programs.{Program, Procedure}
-use Rattle.core_prog.specs.Actions.{Written, no_written, scalar, array, constants, Wanted, no_wanted, one, each, Action, assign, fill, call, choose, select, count, while, forever, exit, cycle, return, stop, continue, print, read, Block, empty, row, Arms, no_arms, arm, Cases, no_cases, case}
+use Rattle.core_prog.specs.Actions.{Written, no_written, scalar, array, constants, Wanted, no_wanted, one, each, Action, assign, fill, call, exit, cycle, return, stop, continue, print, read, Statement, does, choose, select, count, while, forever, Block, empty, row, Arms, no_arms, arm, Cases, no_cases, case}
 use Rattle.core_prog.specs.Terms.{Passed}
 use Rattle.core_prog.specs.Sorts.{Sort, Whole, Truth, is_sort, sort_of_type, is_scalar, ◌>>=◌, if_so, dummies_of, sort_of, sort_of_designator, is_whole, are_passed}
 
@@ -50,29 +50,32 @@ module _ (program : Program) where
   is_call args None = false
   is_call args (Some proc) = is_none proc.result && are_passed program args (dummies_of program proc)
 
+  -- inside so many DO constructs, in a procedure or not
+  abbrev pub is_action : ℕ → Bool → Action → Bool
+  is_action depth inside (assign target term) = agree (sort_of_designator program target) (sort_of program term)
+  is_action depth inside (fill number term) = agree (array_sort program number) (sort_of program term)
+  is_action depth inside (call at number args) = is_call args (slice_get program.procedures number)
+  is_action depth inside (exit number) = nat_lt number depth
+  is_action depth inside (cycle number) = nat_lt number depth
+  is_action depth inside return = inside
+  is_action depth inside stop = true
+  is_action depth inside continue = true
+  is_action depth inside (print items) = are_written items
+  is_action depth inside (read at items) = are_wanted items
+
   abbrev mutual
-    -- inside so many DO constructs, in a procedure or not
-    pub is_action : ℕ → Bool → Action → Bool
-    is_action depth inside (assign target term) = agree (sort_of_designator program target) (sort_of program term)
-    is_action depth inside (fill number term) = agree (array_sort program number) (sort_of program term)
-    is_action depth inside (call at number args) = is_call args (slice_get program.procedures number)
-    is_action depth inside (choose arms otherwise) = are_arms depth inside arms && is_block depth inside otherwise
-    is_action depth inside (select term cases otherwise) = is_sort Whole (sort_of program term) && (are_cases depth inside cases && is_block depth inside otherwise)
-    is_action depth inside (count at number from to by turn) =
+    pub is_statement : ℕ → Bool → Statement → Bool
+    is_statement depth inside (does action) = is_action depth inside action
+    is_statement depth inside (choose arms otherwise) = are_arms depth inside arms && is_block depth inside otherwise
+    is_statement depth inside (select term cases otherwise) = is_sort Whole (sort_of program term) && (are_cases depth inside cases && is_block depth inside otherwise)
+    is_statement depth inside (count at number from to by turn) =
         is_sort Whole (scalar_sort program number) && is_sort Whole (sort_of program from) && is_sort Whole (sort_of program to) && is_whole program by && is_block (suc depth) inside turn
-    is_action depth inside (while term turn) = is_sort Truth (sort_of program term) && is_block (suc depth) inside turn
-    is_action depth inside (forever turn) = is_block (suc depth) inside turn
-    is_action depth inside (exit number) = nat_lt number depth
-    is_action depth inside (cycle number) = nat_lt number depth
-    is_action depth inside return = inside
-    is_action depth inside stop = true
-    is_action depth inside continue = true
-    is_action depth inside (print items) = are_written items
-    is_action depth inside (read at items) = are_wanted items
+    is_statement depth inside (while term turn) = is_sort Truth (sort_of program term) && is_block (suc depth) inside turn
+    is_statement depth inside (forever turn) = is_block (suc depth) inside turn
 
     pub is_block : ℕ → Bool → Block → Bool
     is_block depth inside empty = true
-    is_block depth inside (row first rest) = is_action depth inside first && is_block depth inside rest
+    is_block depth inside (row first rest) = is_statement depth inside first && is_block depth inside rest
 
     pub are_arms : ℕ → Bool → Arms → Bool
     are_arms depth inside no_arms = true

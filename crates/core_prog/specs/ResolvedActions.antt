@@ -25,11 +25,11 @@ use Rattle.core_prog.specs.States.{Ran, Went, Ended, ends}
 use Rattle.core_prog.specs.Programs.{Program}
 use Rattle.core_prog.specs.Values.{value_of}
 use Rattle.core_prog.specs.Terms.{Term, designator, named, none, no_section, no_bound, bound, Bound}
-use Rattle.core_prog.specs.Actions.{Written, no_written, scalar, array, constants, Wanted, no_wanted, one, each, Action, assign, fill, call, choose, select, count, while, forever, exit, cycle, return, stop, continue, print, read, Block, empty, row, Arms, no_arms, arm, Cases, no_cases, case}
+use Rattle.core_prog.specs.Actions.{Written, no_written, scalar, array, constants, Wanted, no_wanted, one, each, Action, assign, fill, call, exit, cycle, return, stop, continue, print, read, Statement, does, choose, select, count, while, forever, Block, empty, row, Arms, no_arms, arm, Cases, no_cases, case}
 use Rattle.core_prog.specs.Naming.{Known, site, denoted, meant_by, variable_entities, rank_of, variable_number, procedure_number}
 use Rattle.core_prog.specs.ResolvedTerms.{Found, of_variable, of_constant, as_term, as_passed, arrays_of, resolved_expr, resolved_term}
 
-abbrev pub block_of : List Action → Block
+abbrev pub block_of : List Statement → Block
 block_of [] = empty
 block_of (first ∷ rest) = row first (block_of rest)
 
@@ -54,7 +54,7 @@ whole_in other = None
 
 pub record ArmFound : Type 0 where
   pub head : ℕ
-  pub body : List Action
+  pub body : List Statement
 
 -- the constructs around a statement, the innermost first: the entity of its name, if it has one
 abbrev pub Around : Type 0
@@ -143,10 +143,10 @@ module _ (known : Known) (file scope : ℕ) where
   simple_at first loops (Form-F.Read style items) = read (site file first) (wanted_of items) ∷ []
   simple_at first loops other = []
 
-  abbrev pub action_at : ℕ → Around → Option FormLayer → List Action
-  action_at first loops (Some (Form-F.If condition at inner)) = choose (arm (term condition) (block_of (simple_at at loops (out-Form inner))) no_arms) empty ∷ []
-  action_at first loops (Some form) = simple_at first loops form
-  action_at first loops None = []
+  abbrev pub statements_at : ℕ → Around → Option FormLayer → List Statement
+  statements_at first loops (Some (Form-F.If condition at inner)) = choose (arm (term condition) (block_of (map does (simple_at at loops (out-Form inner)))) no_arms) empty ∷ []
+  statements_at first loops (Some form) = map does (simple_at first loops form)
+  statements_at first loops None = []
 
   -- ---- constructs
 
@@ -185,11 +185,11 @@ module _ (known : Known) (file scope : ℕ) where
   abbrev pub body_of : List ArmFound → Block
   body_of arms = block_of (flat_map (λ (a : ArmFound). a.body) arms)
 
-  abbrev pub do_with : Option DoControl → Block → Action
+  abbrev pub do_with : Option DoControl → Block → Statement
   do_with None turn = forever turn
   do_with (Some c) turn = count (site file c.variable) (variable_there c.variable) (term c.from) (term c.to) (bound_of c.step) turn
 
-  abbrev pub construct_at : Option FormLayer → List ArmFound → List Action
+  abbrev pub construct_at : Option FormLayer → List ArmFound → List Statement
   construct_at (Some (Form-F.IfThen condition)) arms = choose (arms_of arms) (otherwise_of arms) ∷ []
   construct_at (Some (Form-F.Do label control)) arms = do_with control (body_of arms) ∷ []
   construct_at (Some (Form-F.DoWhile label comma condition)) arms = while (term condition) (body_of arms) ∷ []
@@ -204,18 +204,18 @@ module _ (known : Known) (file scope : ℕ) where
 
   pub record ArmStep : Type 0 where
     pub head : ℕ
-    pub body : Around → List Action
+    pub body : Around → List Statement
 
-  abbrev pub arm_step : Arm-F (Around → List Action) ArmStep → ArmStep
+  abbrev pub arm_step : Arm-F (Around → List Statement) ArmStep → ArmStep
   arm_step here = record { head = here.head; body = λ loops. flat_map (λ block. block loops) here.body }
 
   abbrev pub arm_found : Around → ArmStep → ArmFound
   arm_found loops a = record { head = a.head; body = a.body loops }
 
-  abbrev pub block_step : Block-F (Around → List Action) ArmStep → Around → List Action
-  block_step (Block-F.Plain statement) = λ loops. action_at (first_token_at known.files file statement) loops (layer statement)
+  abbrev pub block_step : Block-F (Around → List Statement) ArmStep → Around → List Statement
+  block_step (Block-F.Plain statement) = λ loops. statements_at (first_token_at known.files file statement) loops (layer statement)
   block_step (Block-F.Nest opening arms ending) = λ loops. construct_at (layer opening) (map (arm_found (inside loops (layer opening))) arms)
 
   -- the statements of a scoping unit
   abbrev pub actions_of : List BlockTree → Block
-  actions_of blocks = block_of (flat_map (λ block. fold-Block (Around → List Action) ArmStep block_step arm_step block []) blocks)
+  actions_of blocks = block_of (flat_map (λ block. fold-Block (Around → List Statement) ArmStep block_step arm_step block []) blocks)

@@ -1,4 +1,4 @@
--- Variables and areas of a resolved program (Fortran 90, 5.1, 5.2.4, 5.2.9, 14.6.3, 14.7.4): their places are those that were laid out; areas
+-- Variables and areas of a resolved program (Fortran 90, 5.1, 5.2.4, 5.2.9, 14.6.3, 14.7.3, 14.7.4): their places are those that were laid out; areas
 -- that aren't kept are emptied at the entry of their procedure; values are given by declarations and DATA.
 use Rattle.std.specs.Prelude.{ℕ, suc, ℤ, pos, neg_ℤ, ◌+◌, ◌*◌, ◌==◌, nat_lt, Bool, true, false, ◌&&◌, ◌||◌, not, if◌then◌else◌, List, [], ◌∷◌, map, flat_map, fold, zip, length, take, replicate, slice_get, position, sum, Option, Some, None}
 use Rattle.std.specs.Ordering.{int_eq}
@@ -187,7 +187,7 @@ module _ (known : Known) where
     home = home_in (own_scope e) number;
   }
 
-  -- ---- areas that are kept (5.2.4, 14.7.4)
+  -- ---- areas that are kept (5.2.4, 14.7.6)
 
   abbrev pub extent_of : Scope → Option Extent
   extent_of s = find (λ (e : Extent). e.file == s.unit.file && e.opening == s.unit.statement) (scoping known.files)

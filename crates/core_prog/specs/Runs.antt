@@ -1,4 +1,4 @@
--- A run of a resolved program (Fortran 90, 2.3.4, 14.6.3, 14.7.4).
+-- A run of a resolved program (Fortran 90, 2.3.4, 14.6.3, 14.7.3, 14.7.4).
 use Rattle.std.specs.Prelude.{ℕ, zero, suc, ◌-◌, List, [], ◌++◌, length, take, replicate, flat_map}
 use Rattle.core_prog.specs.declared.outcome.Outcome.{Outcome}
 use Rattle.core_prog.specs.declared.outcome.Outcome.TheVariants.{Stop}

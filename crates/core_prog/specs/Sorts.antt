@@ -83,20 +83,32 @@ of_one operator.Minus Whole = Some Whole
 of_one operator.Not Truth = Some Truth
 of_one operator sort = None
 
--- 13.10: arguments and result
+-- 13.10: the result for one argument
+abbrev pub of_single : Intrinsic → Sort → Option Sort
+of_single function.Abs Whole = Some Whole
+of_single function.Char Whole = Some Text
+of_single function.Len Text = Some Whole
+of_single function.LenTrim Text = Some Whole
+of_single function.Trim Text = Some Text
+of_single function.Ichar Text = Some Whole
+of_single other sort = None
+
+abbrev pub are_all_wholes : List Sort → Bool
+are_all_wholes sorts = list_all (λ sort. is_sort Whole (Some sort)) sorts
+
+-- 13.10: the result for two arguments and more
+abbrev pub of_several : Intrinsic → Sort → Sort → List Sort → Option Sort
+of_several function.Mod Whole Whole [] = Some Whole
+of_several function.Sign Whole Whole [] = Some Whole
+of_several function.Index Text Text [] = Some Whole
+of_several function.Min Whole Whole rest = if_so (are_all_wholes rest) Whole
+of_several function.Max Whole Whole rest = if_so (are_all_wholes rest) Whole
+of_several other first second rest = None
+
 abbrev pub of_intrinsic : Intrinsic → List Sort → Option Sort
-of_intrinsic function.Abs (Whole ∷ []) = Some Whole
-of_intrinsic function.Char (Whole ∷ []) = Some Text
-of_intrinsic function.Len (Text ∷ []) = Some Whole
-of_intrinsic function.LenTrim (Text ∷ []) = Some Whole
-of_intrinsic function.Trim (Text ∷ []) = Some Text
-of_intrinsic function.Ichar (Text ∷ []) = Some Whole
-of_intrinsic function.Index (Text ∷ Text ∷ []) = Some Whole
-of_intrinsic function.Mod (Whole ∷ Whole ∷ []) = Some Whole
-of_intrinsic function.Sign (Whole ∷ Whole ∷ []) = Some Whole
-of_intrinsic function.Min (Whole ∷ Whole ∷ rest) = if_so (list_all (λ sort. is_sort Whole (Some sort)) rest) Whole
-of_intrinsic function.Max (Whole ∷ Whole ∷ rest) = if_so (list_all (λ sort. is_sort Whole (Some sort)) rest) Whole
-of_intrinsic other sorts = None
+of_intrinsic function [] = None
+of_intrinsic function (sort ∷ []) = of_single function sort
+of_intrinsic function (first ∷ second ∷ rest) = of_several function first second rest
 
 abbrev pub is_scalar : Variable → Bool
 is_scalar v = length v.dimensions == 0

@@ -14,7 +14,7 @@ use Rattle.core_prog.specs.Arrays.{at_least_zero, axis_from, elements}
 use Rattle.core_prog.specs.Memory.{Holding, element_at, read_at}
 use Rattle.core_prog.specs.Programs.{Program}
 use Rattle.core_prog.specs.Holdings.{holding}
-use Rattle.core_prog.specs.Actions.{Written, no_written, scalar, array, constants, Wanted, no_wanted, one, each, Action, assign, fill, call, choose, select, count, while, forever, exit, cycle, return, stop, continue, print, read, Block, empty, row, Arms, no_arms, arm, Cases, no_cases, case}
+use Rattle.core_prog.specs.Actions.{Written, no_written, scalar, array, constants, Wanted, no_wanted, one, each, Action, assign, fill, call, exit, cycle, return, stop, continue, print, read, Statement, does, choose, select, count, while, forever, Block, empty, row, Arms, no_arms, arm, Cases, no_cases, case}
 use Rattle.core_prog.specs.Terms.{Term, designator}
 use Rattle.core_prog.specs.Input.{Last, Nothing, scalar_in, elements_in, rest_of}
 use Rattle.core_prog.specs.States.{M, ◌>>=◌, ◌>>◌, pure, ends, tick, told, asks, puts, emits, by_input, Way, GoOn, Exit, Cycle, Return, onward, around}
@@ -53,7 +53,7 @@ turn_count from to by = at_least_zero (int_div ((to -ℤ from) +ℤ by) by)
 abbrev pub not_zero : Site → ℤ → Result (Unit {0}) End
 not_zero at z = if unsigned_abs z == 0 then Err (Faulted code.Zero at) else Ok tt
 
--- 8.1.4.4.3: the DO variable grows
+-- 8.1.4.4.2: the DO variable grows
 abbrev pub grown : Site → Holding → ℤ → M (Unit {0})
 grown at h by = asks (read_at at (element_at h 0)) >>= (λ v. told (as_whole v) >>= (λ z. told (whole_at at (sum z by)) >>= puts (element_at h 0)))
 
@@ -96,27 +96,31 @@ module _ (program : Program) (body : ℕ → M Way) where
   counted at number turn from to by =
       told (not_zero at by) >> (asks (holding program number) >>= (λ h. puts (element_at h 0) (Whole from) >> rounds (turn_count from to by) (grown at h by) turn))
 
+  -- 2.1: statements without a block
+  abbrev pub act : Action → M Way
+  act (assign target term) = tick >> (place_at program body target >>= (λ p. value_of program body term >>= (λ v. puts p v >> pure GoOn)))
+  act (fill number term) = tick >> (value_of program body term >>= (λ v. asks (holding program number) >>= (λ h. filled h v 0 h.count)))
+  act (call at number args) = tick >> (arguments_of program body args >>= (λ found. called program body at number found >> pure GoOn))
+  act (exit depth) = tick >> pure (Exit depth)
+  act (cycle depth) = tick >> pure (Cycle depth)
+  act return = tick >> pure Return
+  act stop = tick >> ends Stopped
+  act continue = tick >> pure GoOn
+  act (print items) = tick >> (written items >>= (λ vs. emits (record_of vs) >> pure GoOn))
+  act (read at items) = tick >> (wanted items Nothing >>= (λ last. by_input (λ n. rest_of at n last) >> pure GoOn))
+
   abbrev mutual
-    pub act : Action → M Way
-    act (assign target term) = tick >> (place_at program body target >>= (λ p. value_of program body term >>= (λ v. puts p v >> pure GoOn)))
-    act (fill number term) = tick >> (value_of program body term >>= (λ v. asks (holding program number) >>= (λ h. filled h v 0 h.count)))
-    act (call at number args) = tick >> (arguments_of program body args >>= (λ found. called program body at number found >> pure GoOn))
-    act (choose arms otherwise) = chosen arms (block otherwise)
-    act (select term cases otherwise) = tick >> (whole_of term >>= (λ z. selected z cases (block otherwise)))
-    act (count at number from to by turn) = tick >> (whole_of from >>= (λ a. whole_of to >>= (λ b. bound_or program body (pos 1) by >>= (λ c. counted at number (block turn) a b c))))
-    act (while term turn) = tick >> looped (truth_of term) (block turn)
-    act (forever turn) = tick >> looped (pure true) (block turn)
-    act (exit depth) = tick >> pure (Exit depth)
-    act (cycle depth) = tick >> pure (Cycle depth)
-    act return = tick >> pure Return
-    act stop = tick >> ends Stopped
-    act continue = tick >> pure GoOn
-    act (print items) = tick >> (written items >>= (λ vs. emits (record_of vs) >> pure GoOn))
-    act (read at items) = tick >> (wanted items Nothing >>= (λ last. by_input (λ n. rest_of at n last) >> pure GoOn))
+    pub perform : Statement → M Way
+    perform (does action) = act action
+    perform (choose arms otherwise) = chosen arms (block otherwise)
+    perform (select term cases otherwise) = tick >> (whole_of term >>= (λ z. selected z cases (block otherwise)))
+    perform (count at number from to by turn) = tick >> (whole_of from >>= (λ a. whole_of to >>= (λ b. bound_or program body (pos 1) by >>= (λ c. counted at number (block turn) a b c))))
+    perform (while term turn) = tick >> looped (truth_of term) (block turn)
+    perform (forever turn) = tick >> looped (pure true) (block turn)
 
     pub block : Block → M Way
     block empty = pure GoOn
-    block (row first rest) = act first >>= (λ way. onward (block rest) way)
+    block (row first rest) = perform first >>= (λ way. onward (block rest) way)
 
     -- 8.1.2: IF takes a step for each condition that is evaluated
     pub chosen : Arms → M Way → M Way

@@ -6,6 +6,9 @@ use Rattle.core_prog.specs.declared.site.Site.{Site}
 use Rattle.core_prog.specs.declared.expr.Intrinsic.{Intrinsic}
 use Rattle.core_prog.specs.declared.expr.Expr.{Expr, fold-Expr}
 use Rattle.core_prog.specs.declared.expr.Actuals.{Actuals, fold-Actuals}
+use Rattle.core_prog.specs.declared.expr.Exprs.{Exprs, fold-Exprs}
+use Rattle.core_prog.specs.declared.expr.ConstantRef.{ConstantRef, fold-ConstantRef}
+use Rattle.core_prog.specs.declared.expr.Substring.{Substring, fold-Substring}
 use Rattle.core_prog.specs.declared.expr.VariableRef.{VariableRef, fold-VariableRef}
 use Rattle.core_prog.specs.declared.expr.Actuals.TheOpen.{Actuals-F, Expr-F, Exprs-F, ConstantRef-F, Substring-F, VariableRef-F}
 
@@ -89,8 +92,17 @@ passed_step (Actuals-F.Constants of rest) = constants of rest
 abbrev pub term_of : Expr → Term
 term_of = fold-Expr Passed Term Terms Named Section Designator passed_step term_step terms_step named_step section_step designator_step
 
-abbrev pub passed_of : Actuals → Passed
-passed_of = fold-Actuals Passed Term Terms Named Section Designator passed_step term_step terms_step named_step section_step designator_step
+abbrev pub terms_of : Exprs → Terms
+terms_of = fold-Exprs Passed Term Terms Named Section Designator passed_step term_step terms_step named_step section_step designator_step
 
 abbrev pub designator_of : VariableRef → Designator
 designator_of = fold-VariableRef Passed Term Terms Named Section Designator passed_step term_step terms_step named_step section_step designator_step
+
+abbrev pub named_of : ConstantRef → Named
+named_of = fold-ConstantRef Passed Term Terms Named Section Designator passed_step term_step terms_step named_step section_step designator_step
+
+abbrev pub range_of : Substring → Section
+range_of = fold-Substring Passed Term Terms Named Section Designator passed_step term_step terms_step named_step section_step designator_step
+
+abbrev pub passed_of : Actuals → Passed
+passed_of = fold-Actuals Passed Term Terms Named Section Designator passed_step term_step terms_step named_step section_step designator_step

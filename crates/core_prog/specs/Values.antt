@@ -32,7 +32,7 @@ abbrev pub constants_of : Site → Value → List Axis → List ℤ → M Argume
 constants_of at v axes subscripts =
     told (in_bounds at (element (elements axes) axes subscripts)) >>= (λ n. pure (own v (elements axes - n)))
 
--- 12.5.2.6: the exit, whose step comes before the result is read
+-- 12.5.2: the exit, whose step comes before the result is read
 abbrev pub leaving : Program → Site → Procedure → ℕ → M (Option Value)
 leaving program at proc mark =
     tick >> (asks (result_at program at proc.result) >>= (λ result. asks (λ memory. Ok (left mark memory)) >>= (λ outside. remembers outside >> pure result)))

@@ -14,11 +14,9 @@ pub struct CaseValues {
     pub high: Option<i32>,
 }
 
-/// An executable statement or construct (8, 7.5, 9.4, 12.4). PRINT and WRITE are one statement, and an IF statement is an IF construct
-/// with one arm.
-#[cycle(stmt)]
+/// An action statement (2.1): one without a block. PRINT and WRITE are one statement.
 #[derive(Drop)]
-pub enum Stmt {
+pub enum Action {
     /// An assignment to a scalar variable, an array element or a substring (7.5.1).
     Assign {
         /// What gets the value.
@@ -26,7 +24,7 @@ pub enum Stmt {
         /// The right side.
         value: Expr,
     },
-    /// An assignment of a scalar to each element of a whole array (7.5.1.4).
+    /// An assignment of a scalar to each element of a whole array (7.5.1).
     Fill {
         /// The number of the array.
         variable: u32,
@@ -42,6 +40,33 @@ pub enum Stmt {
         /// The actual arguments.
         args: Actuals,
     },
+    /// EXIT (8.1.4.4.4) from the DO construct that has so many others between itself and the statement.
+    Exit(u32),
+    /// CYCLE (8.1.4.4.3) of the DO construct that has so many others between itself and the statement.
+    Cycle(u32),
+    /// RETURN (12.5.2).
+    Return,
+    /// STOP (8.4), with or without a code.
+    Stop,
+    /// CONTINUE (8.3).
+    Continue,
+    /// PRINT or WRITE (9.4).
+    Print(Outputs),
+    /// READ (9.4).
+    Read {
+        /// The statement's first token.
+        at: Site,
+        /// What is read.
+        items: Inputs,
+    },
+}
+
+/// An action statement or a construct (8.1). An IF statement is an IF construct with one arm.
+#[cycle(stmt)]
+#[derive(Drop)]
+pub enum Stmt {
+    /// A statement without a block.
+    Action(Action),
     /// IF (8.1.2).
     If {
         /// IF and each ELSE IF with its block.
@@ -82,25 +107,6 @@ pub enum Stmt {
     },
     /// DO without control.
     Forever(Boxed<Stmts>),
-    /// EXIT (8.1.4.4.4) from the DO construct that has so many others between itself and the statement.
-    Exit(u32),
-    /// CYCLE (8.1.4.4.3) of the DO construct that has so many others between itself and the statement.
-    Cycle(u32),
-    /// RETURN (12.5.2.6).
-    Return,
-    /// STOP (8.4), with or without a code.
-    Stop,
-    /// CONTINUE (8.3).
-    Continue,
-    /// PRINT or WRITE (9.4).
-    Print(Outputs),
-    /// READ (9.4).
-    Read {
-        /// The statement's first token.
-        at: Site,
-        /// What is read.
-        items: Inputs,
-    },
 }
 
 /// A block (8.1.1).
