@@ -32,7 +32,7 @@ pub struct Row {
 
 impl Row {
     /// A row without words and files, that wants no output.
-    pub fn new(alloc: Global, title: &str) -> Result<Row, RowFault> {
+    fn new(alloc: Global, title: &str) -> Result<Row, RowFault> {
         Ok(Row {
             title: String::from_str(alloc, title)?,
             words: Vec::new(alloc),
@@ -46,8 +46,21 @@ impl Row {
         })
     }
 
+    /// The row that begins with the part of that number.
+    pub fn of(alloc: Global, parts: &[Part], at: usize) -> Result<Row, RowFault> {
+        let title = parts.get(at).ok_or(RowFault::BadLine)?;
+        let mut row = Row::new(alloc, title.rest)?;
+        for part in parts.iter().skip(at.saturating_add(1)) {
+            if part.key == "row" {
+                break;
+            }
+            row.add(alloc, parts, part)?;
+        }
+        Ok(row)
+    }
+
     /// Adds what a part says. `texts` are the texts that parts may name.
-    pub fn add(&mut self, alloc: Global, texts: &[Part], part: &Part) -> Result<(), RowFault> {
+    fn add(&mut self, alloc: Global, texts: &[Part], part: &Part) -> Result<(), RowFault> {
         match part.key {
             "words" => self.add_words(alloc, part.rest),
             "file" | "after" => self.add_file(alloc, texts, part),
