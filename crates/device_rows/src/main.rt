@@ -53,78 +53,54 @@ fn finish(
     Ok(())
 }
 
-/// Carries the row out, if there is one.
-fn carry_out(
+/// Takes the row that begins with the part of that number.
+fn take_row(
     rt: &HostRuntime,
     counts: &mut Counts,
     file: &FileName,
-    row: Option<Row>,
+    parts: &[Part],
+    at: usize,
 ) -> Result<(), RowFault> {
-    if let Some(row) = row {
-        let title = row.title.clone()?;
-        let told = differences(rt.alloc(), row)?;
-        finish(rt, counts, file, title.as_str(), &told)?;
-    }
-    Ok(())
+    let mut row = Row::of(rt.alloc(), parts, at)?;
+    let told = differences(rt.alloc(), &mut row)?;
+    finish(rt, counts, file, row.title.as_str(), &told)
 }
 
-/// Runs the program, if there is one.
-fn run_program(
+/// Takes the program that begins with the part of that number.
+fn take_program(
     rt: &HostRuntime,
     counts: &mut Counts,
     file: &FileName,
-    runs: Option<Runs>,
+    parts: &[Part],
+    at: usize,
 ) -> Result<(), RowFault> {
-    if let Some(runs) = runs {
-        let told = runs.differences(rt.alloc())?;
-        finish(rt, counts, file, runs.title.as_str(), &told)?;
-    }
-    Ok(())
+    let runs = Runs::of(rt.alloc(), parts, at)?;
+    let told = runs.differences(rt.alloc())?;
+    finish(rt, counts, file, runs.title.as_str(), &told)
 }
 
-/// Takes the rows of a file of commands.
-fn take_rows(
+/// Takes what begins with each part `row`, by the end of the file's name.
+fn take_parts(
     rt: &HostRuntime,
     counts: &mut Counts,
     file: &FileName,
     parts: &[Part],
 ) -> Result<(), RowFault> {
-    let alloc = rt.alloc();
-    let mut row = None;
-    for part in parts {
-        if part.key == "row" {
-            carry_out(rt, counts, file, row)?;
-            row = Some(Row::new(alloc, part.rest)?);
-        } else if part.key != "text" {
-            row.as_mut()
-                .ok_or(RowFault::BadLine)?
-                .add(alloc, parts, part)?;
+    let are_programs = file.bytes().ends_with(b".runs");
+    for (at, part) in parts.iter().enumerate() {
+        if part.key != "row" {
+            continue;
         }
-    }
-    carry_out(rt, counts, file, row)
-}
-
-/// Takes the rows of a file of programs.
-fn take_runs(
-    rt: &HostRuntime,
-    counts: &mut Counts,
-    file: &FileName,
-    parts: &[Part],
-) -> Result<(), RowFault> {
-    let alloc = rt.alloc();
-    let mut runs = None;
-    for part in parts {
-        if part.key == "row" {
-            run_program(rt, counts, file, runs)?;
-            runs = Some(Runs::new(alloc, part.rest)?);
+        if are_programs {
+            take_program(rt, counts, file, parts, at)?;
         } else {
-            runs.as_mut().ok_or(RowFault::BadLine)?.add(alloc, part)?;
+            take_row(rt, counts, file, parts, at)?;
         }
     }
-    run_program(rt, counts, file, runs)
+    Ok(())
 }
 
-/// Takes the rows of a file, by the end of its name.
+/// Takes the rows of a file.
 fn take_file(
     rt: &HostRuntime,
     counts: &mut Counts,
@@ -132,10 +108,7 @@ fn take_file(
     text: &[u8],
 ) -> Result<(), RowFault> {
     let parts = parts_of(rt.alloc(), text)?;
-    if name.bytes().ends_with(b".runs") {
-        return take_runs(rt, counts, name, &parts);
-    }
-    take_rows(rt, counts, name, &parts)
+    take_parts(rt, counts, name, &parts)
 }
 
 /// Takes the rows of all files `*.rows` and `*.runs` of the folder.

@@ -15,14 +15,14 @@ pub struct Part<'a> {
     pub body: Vec<u8>,
 }
 
-/// The parts of a text of rows. A line that begins with `|`, `>` or `*` is one of the text below the line before, and
-/// one that begins with `#` is a remark.
+/// The parts of a text of rows. A line that begins with `|` or `>` is one of the text below the line before, and one
+/// that begins with `#` is a remark.
 pub fn parts_of(alloc: Global, text: &[u8]) -> Result<Vec<Part<'_>>, RowFault> {
     let mut parts: Vec<Part<'_>> = Vec::new(alloc);
     for line in text.split(|byte| *byte == b'\n') {
         match line.first().copied() {
             None | Some(b'#') => {}
-            Some(b'|' | b'>' | b'*') => match parts.last_mut() {
+            Some(b'|' | b'>') => match parts.last_mut() {
                 Some(part) => add_line(&mut part.body, line)?,
                 None => return Err(RowFault::BadLine),
             },
@@ -42,30 +42,15 @@ fn part_of(alloc: Global, line: &[u8]) -> Result<Part<'_>, RowFault> {
     })
 }
 
-/// Adds what a line of a text says: `|TEXT` is a line with its LF, `>TEXT` a line without, and a number after a `*` in
-/// front of these says how many times.
+/// Adds what a line of a text says: `|TEXT` is a line with its LF, `>TEXT` a line without.
 fn add_line(body: &mut Vec<u8>, line: &[u8]) -> Result<(), RowFault> {
-    let (times, line) = times_of(line)?;
-    body.reserve((times as usize).saturating_mul(line.len()))?;
-    for _ in 0..times {
-        match line {
-            [b'|', text @ ..] => {
-                body.extend_from_slice(text)?;
-                body.push(b'\n')?;
-            }
-            [b'>', text @ ..] => body.extend_from_slice(text)?,
-            _ => return Err(RowFault::BadLine),
+    match line {
+        [b'|', text @ ..] => {
+            body.extend_from_slice(text)?;
+            body.push(b'\n')?;
         }
+        [b'>', text @ ..] => body.extend_from_slice(text)?,
+        _ => return Err(RowFault::BadLine),
     }
     Ok(())
-}
-
-/// How many times a line counts, and the line.
-fn times_of(line: &[u8]) -> Result<(u32, &[u8]), RowFault> {
-    let [b'*', rest @ ..] = line else {
-        return Ok((1, line));
-    };
-    let digits = rest.iter().take_while(|byte| byte.is_ascii_digit()).count();
-    let (number, line) = rest.split_at(digits);
-    Ok((str::from_utf8(number)?.parse::<u32>()?, line))
 }

@@ -7,9 +7,6 @@ use ftn_base::FileName;
 use std::alloc::Global;
 use store_io::{FailAt, MemStore, Store};
 
-/// The number in the name of the first of many files.
-const FIRST_NUMBER: u32 = 10_000;
-
 /// A command over a project and devices, and what is wanted of it.
 #[derive(Drop)]
 pub struct Row {
@@ -35,7 +32,7 @@ pub struct Row {
 
 impl Row {
     /// A row without words and files, that wants no output.
-    pub fn new(alloc: Global, title: &str) -> Result<Row, RowFault> {
+    fn new(alloc: Global, title: &str) -> Result<Row, RowFault> {
         Ok(Row {
             title: String::from_str(alloc, title)?,
             words: Vec::new(alloc),
@@ -49,11 +46,24 @@ impl Row {
         })
     }
 
+    /// The row that begins with the part of that number.
+    pub fn of(alloc: Global, parts: &[Part], at: usize) -> Result<Row, RowFault> {
+        let title = parts.get(at).ok_or(RowFault::BadLine)?;
+        let mut row = Row::new(alloc, title.rest)?;
+        for part in parts.iter().skip(at.saturating_add(1)) {
+            if part.key == "row" {
+                break;
+            }
+            row.add(alloc, parts, part)?;
+        }
+        Ok(row)
+    }
+
     /// Adds what a part says. `texts` are the texts that parts may name.
-    pub fn add(&mut self, alloc: Global, texts: &[Part], part: &Part) -> Result<(), RowFault> {
+    fn add(&mut self, alloc: Global, texts: &[Part], part: &Part) -> Result<(), RowFault> {
         match part.key {
-            "words" | "word" => self.add_words(alloc, part),
-            "file" | "after" | "many" => self.add_file(alloc, texts, part),
+            "words" => self.add_words(alloc, part.rest),
+            "file" | "after" => self.add_file(alloc, texts, part),
             "status" => {
                 self.status = Some(part.rest.parse::<u8>()?);
                 Ok(())
@@ -63,35 +73,22 @@ impl Row {
         }
     }
 
-    /// `words` adds the words of a line, which single blanks separate, and `word` the whole line as one.
-    fn add_words(&mut self, alloc: Global, part: &Part) -> Result<(), RowFault> {
-        if part.key == "word" {
-            self.words.push(String::from_str(alloc, part.rest)?)?;
-            return Ok(());
-        }
-        for word in part.rest.split(' ') {
+    /// Adds the words of a line, which single blanks separate.
+    fn add_words(&mut self, alloc: Global, line: &str) -> Result<(), RowFault> {
+        for word in line.split(' ') {
             self.words.push(String::from_str(alloc, word)?)?;
         }
         Ok(())
     }
 
-    /// `file` puts a file before and after the command, and `after` after it alone. `many` puts so many files, whose
-    /// names are numbers.
+    /// `file` puts a file before and after the command, and `after` after it alone.
     fn add_file(&mut self, alloc: Global, texts: &[Part], part: &Part) -> Result<(), RowFault> {
-        if part.key == "many" {
-            for number in 0..part.rest.parse::<u32>()? {
-                let number = number.saturating_add(FIRST_NUMBER);
-                let name = format!(in alloc; "{number}.f90")?;
-                put_both(alloc, self, name.as_str(), &part.body)?;
-            }
-            return Ok(());
-        }
         let (name, text) = part.rest.split_once(' ').unwrap_or((part.rest, ""));
         let text = text_of(texts, text).unwrap_or(&part.body);
-        if part.key == "after" {
-            return put(alloc, &mut self.after, name, text);
+        if part.key == "file" {
+            put(alloc, &mut self.before, name, text)?;
         }
-        put_both(alloc, self, name, text)
+        put(alloc, &mut self.after, name, text)
     }
 
     /// What the line says of failing calls.
@@ -118,11 +115,6 @@ fn text_of<'a>(texts: &'a [Part<'_>], name: &str) -> Option<&'a Vec<u8>> {
         }
     }
     None
-}
-
-fn put_both(alloc: Global, row: &mut Row, name: &str, text: &[u8]) -> Result<(), RowFault> {
-    put(alloc, &mut row.before, name, text)?;
-    put(alloc, &mut row.after, name, text)
 }
 
 /// Puts a file.

@@ -14,29 +14,29 @@ use store_io::{MemSource, MemStore};
 const INPUT: &[u8] = b"1 2\n";
 
 /// How what came of the row differs from what it wants: nothing, where it doesn't.
-pub fn differences(alloc: Global, row: Row) -> Result<Vec<u8>, RowFault> {
-    let Row {
-        words,
-        before,
-        after,
-        fails,
-        from,
-        mut sink,
-        status,
-        output,
-        ..
-    } = row;
-    let mut store = MemStore::failing(copies(alloc, before.files())?, fails, from);
-    let mut input = MemSource::new(Vec::from_slice(alloc, INPUT)?, Vec::new(alloc));
-    let answer = tool(alloc, &words, &mut store, &mut input, &mut sink);
-    let status = status.ok_or(RowFault::BadLine)?;
+pub fn differences(alloc: Global, row: &mut Row) -> Result<Vec<u8>, RowFault> {
+    let fails = Vec::from_slice(alloc, &row.fails)?;
+    let mut store = MemStore::failing(copies(alloc, row.before.files())?, fails, row.from);
     let mut told = Vec::new(alloc);
-    let code = answer.code() as usize;
-    compare_numbers(alloc, &mut told, "status", code, status as usize)?;
-    compare_texts(alloc, &mut told, "output", sink.bytes(), &output)?;
-    compare_texts(alloc, &mut told, "input", input.left(), INPUT)?;
-    compare_files(alloc, &mut told, store.files(), after.files())?;
+    carry_out(alloc, &mut told, row, &mut store)?;
+    compare_files(alloc, &mut told, store.files(), row.after.files())?;
     Ok(told)
+}
+
+/// Carries the command out, and adds how its answer, its output and the source differ.
+fn carry_out(
+    alloc: Global,
+    told: &mut Vec<u8>,
+    row: &mut Row,
+    store: &mut MemStore,
+) -> Result<(), RowFault> {
+    let status = row.status.ok_or(RowFault::BadLine)?;
+    let mut input = MemSource::new(Vec::from_slice(alloc, INPUT)?, Vec::new(alloc));
+    let answer = tool(alloc, &row.words, store, &mut input, &mut row.sink);
+    let code = answer.code() as usize;
+    compare_numbers(alloc, told, "status", code, status as usize)?;
+    compare_texts(alloc, told, "output", row.sink.bytes(), &row.output)?;
+    compare_texts(alloc, told, "input", input.left(), INPUT)
 }
 
 /// Equal files in memory of their own.

@@ -25,7 +25,7 @@ pub struct Runs {
 
 impl Runs {
     /// A row without a program.
-    pub fn new(alloc: Global, title: &str) -> Result<Runs, RowFault> {
+    fn new(alloc: Global, title: &str) -> Result<Runs, RowFault> {
         Ok(Runs {
             title: String::from_str(alloc, title)?,
             text: Vec::new(alloc),
@@ -35,8 +35,21 @@ impl Runs {
         })
     }
 
+    /// The program that begins with the part of that number.
+    pub fn of(alloc: Global, parts: &[Part], at: usize) -> Result<Runs, RowFault> {
+        let title = parts.get(at).ok_or(RowFault::BadLine)?;
+        let mut runs = Runs::new(alloc, title.rest)?;
+        for part in parts.iter().skip(at.saturating_add(1)) {
+            if part.key == "row" {
+                break;
+            }
+            runs.add(alloc, part)?;
+        }
+        Ok(runs)
+    }
+
     /// Adds what a part says.
-    pub fn add(&mut self, alloc: Global, part: &Part) -> Result<(), RowFault> {
+    fn add(&mut self, alloc: Global, part: &Part) -> Result<(), RowFault> {
         match part.key {
             "program" => self.text.extend_from_slice(&part.body)?,
             "record" => {

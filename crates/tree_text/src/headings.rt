@@ -8,12 +8,16 @@ use ftn_tree::{
 };
 use sqlite_items::Items;
 
+/// The words BLOCK DATA, as they are written.
+pub fn block_data_text(joined: bool) -> &'static [u8] {
+    if joined { b"BLOCKDATA" } else { b"BLOCK DATA" }
+}
+
 fn text_of(word: EndWord) -> &'static [u8] {
     match word {
         EndWord::Program => b"PROGRAM",
         EndWord::Module => b"MODULE",
-        EndWord::BlockData { joined: true } => b"BLOCKDATA",
-        EndWord::BlockData { joined: false } => b"BLOCK DATA",
+        EndWord::BlockData { joined } => block_data_text(joined),
         EndWord::Subroutine => b"SUBROUTINE",
         EndWord::Function => b"FUNCTION",
         EndWord::Interface => b"INTERFACE",

@@ -10,8 +10,8 @@ use crate::declarations::{
     put_intent, put_listed, put_procedure, put_save_items, put_sets, put_type,
 };
 use crate::headings::{
-    put_dummies, put_ending, put_implicit, put_only, put_renames, put_result, put_result_type,
-    put_subroutine,
+    block_data_text, put_dummies, put_ending, put_implicit, put_only, put_renames, put_result,
+    put_result_type, put_subroutine,
 };
 use crate::line::{join, place_of, put, put_maybe, put_names, put_place, put_token};
 use ftn_base::NoMemory;
@@ -138,12 +138,7 @@ fn put_heading(out: &mut Vec<u8>, tokens: &Tokens, form: &Form) -> Result<(), No
         Form::Program { name } => put_named(out, tokens, b"PROGRAM", *name),
         Form::Module { name } => put_named(out, tokens, b"MODULE", *name),
         Form::BlockData { joined, name } => {
-            let word = if *joined {
-                b"BLOCKDATA".as_slice()
-            } else {
-                b"BLOCK DATA"
-            };
-            put_unnamed(out, tokens, word, *name)
+            put_unnamed(out, tokens, block_data_text(*joined), *name)
         }
         Form::Subroutine { name, dummies } => put_subroutine(out, tokens, *name, dummies),
         Form::Function {

@@ -1,4 +1,4 @@
-use Rattle.std.proofs.Common.{◌≡◌, List, All, true, get_or, subst, take_all, rules}
+use Rattle.std.proofs.Common.{◌≡◌, List, All, true, subst, take_all, rules}
 use Rattle.std.proofs.lemmas.List.Elements.{All-more}
 use Rattle.ftn_base.specs.declared.storage.BlockList.{BlockList}
 use Rattle.crate_tests.proofs.tests.layout_given.is_named_so.Goals as goal
