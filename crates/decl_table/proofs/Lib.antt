@@ -1,0 +1,7 @@
+pub mod FirstRules
+pub mod FirstSayings
+pub mod Gathering
+pub mod KnownNames
+pub mod NameFindings
+pub mod Places
+pub mod SayingTurns

@@ -1,0 +1,17 @@
+//! Declarations (Fortran 90, 5, 12.5.2, 14.1.2): the first fault that the names of a scoping unit give.
+//!
+//! `first_of_names` gives exactly the first fault that is defined, or none where there is none. To be trusted are `Exclusions`,
+//! `Sayings` and `DeclarationFaults` of `ftn_tree`; `steps` serves proofs alone. It isn't said how long a call takes: with a look-up
+//! by name and a fixed number of tests for each mention of a name.
+#![tactic(auto)]
+
+mod finding;
+mod firsts;
+mod known_names;
+mod names;
+mod rules;
+mod saying;
+
+pub use finding::{Finding, Place};
+pub use names::first_of_names;
+pub use saying::Saying;
