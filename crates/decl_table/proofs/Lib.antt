@@ -1,3 +1,4 @@
+pub mod FindingOrder
 pub mod FirstRules
 pub mod FirstSayings
 pub mod Gathering

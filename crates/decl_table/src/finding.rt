@@ -1,8 +1,8 @@
 //! Faults of declarations, by tokens.
 
-ghost use Rattle.std.specs.Prelude.{◌≡◌};
+ghost use Rattle.std.specs.Prelude.{◌≡◌, ◌++◌};
 ghost use Rattle.decl_table.specs.steps.Gathering.{earlier};
-ghost use Rattle.ftn_tree.specs.DeclarationFaults.{before_in_place, declaration_rank};
+ghost use Rattle.ftn_tree.specs.DeclarationFaults.{before_in_place, declaration_rank, first_finding};
 
 use ftn_base::FaultKind;
 use std::marker::Model;
@@ -65,9 +65,10 @@ impl Finding {
     }
 }
 
-/// The one that comes before the other, and of those alike the first.
+/// The one that comes before the other, and of those alike the first. So the first fault of two lists is found from that of each.
 pub(crate) fn earlier(first: Option<Finding>, second: Option<Finding>) -> Option<Finding>
-    ensures { result ≡ earlier first second }
+    ensures value { result ≡ earlier first second }
+    ensures joined { (xs ys : _) → first ≡ first_finding declaration_rank xs → second ≡ first_finding declaration_rank ys → result ≡ first_finding declaration_rank (xs ++ ys) }
 {
     match first {
         None => second,

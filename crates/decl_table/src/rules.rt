@@ -7,18 +7,21 @@ ghost use Rattle.decl_table.specs.steps.Rules as steps;
 use crate::firsts::{Firsts, least, with};
 
 impl Firsts {
+    /// A dummy argument or a result (12.5.2).
     fn argument(&self) -> Option<usize>
         ensures { result ≡ steps.argument self.now }
     {
         least(self.dummy, self.answer)
     }
 
+    /// A procedure outside of the scoping unit (12.3.2).
     fn outside(&self) -> Option<usize>
         ensures { result ≡ steps.outside self.now }
     {
         least(least(self.external, self.intrinsic), self.body)
     }
 
+    /// What declares the name.
     fn declared(&self) -> Option<usize>
         ensures { result ≡ steps.declares self.now }
     {
@@ -63,6 +66,7 @@ impl Firsts {
     }
 }
 
+/// The first earlier saying that gives what this one gives too, and what is given once: a type, bounds or a value.
 fn alike(earlier: &Firsts, one: &Firsts) -> Option<usize>
     ensures { result ≡ steps.alike earlier.now one.now }
 {

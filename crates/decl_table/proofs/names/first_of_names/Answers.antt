@@ -25,6 +25,6 @@ loop-index-preserved c =
           (known c.loop-index.names name) (known c.put.new.names name) before c.of-one.ensures c.and.ensures name (c.loop-index.invariant.0 name) (c.in_ok-put.ensures name),
       found_next c.args.said.now c.loop-index.index c.index-said-index.result c.loop-index-test.true c.index-said-index.is c.args.kind c.args.file c.s.inside.name.now named c.known-before.result c.of-one.result
           before c.of-one.ensures c.loop-index.found c.earlier-found.result c.earlier-found-in-loop-index.result c.loop-index.invariant.1
-          (c.earlier-found.ensures ∙ ap (earlier c.loop-index.found) (c.twice_finding.ensures ∙ ap (twice_finding c.args.file c.args.said.now c.index-said-index.result) c.partner-partner.ensures))
-          (c.earlier-found-in-loop-index.ensures ∙ ap (earlier c.earlier-found.result) c.conflicting_finding.ensures),
+          (c.earlier-found.ensures.value ∙ ap (earlier c.loop-index.found) (c.twice_finding.ensures ∙ ap (twice_finding c.args.file c.args.said.now c.index-said-index.result) c.partner-partner.ensures))
+          (c.earlier-found-in-loop-index.ensures.value ∙ ap (earlier c.earlier-found.result) c.conflicting_finding.ensures),
     )
