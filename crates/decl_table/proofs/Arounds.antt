@@ -10,8 +10,8 @@ use Rattle.ftn_tree.specs.declared.unit.FileTree.{FileTree}
 use Rattle.ftn_tree.specs.Extents.{covers, encloses, same_extent, innermost, extents, extents_from, extents_in, scoping, scope_of, is_body, is_interface, is_some_interface}
 use Rattle.ftn_tree.specs.Scopes.{host_number, scope_number}
 use Rattle.ftn_tree.specs.Projects.{AreTrees, IsSomeTree}
-use Rattle.decl_table.specs.Located.{is_interface_number}
-use Rattle.decl_table.specs.Rows.{Row, number_at, with_extent, rows_after, around_after, empty_rows, around_of, rows_of}
+use Rattle.decl_table.specs.steps.Located.{is_interface_number}
+use Rattle.decl_table.specs.steps.Rows.{Row, number_at, with_extent, rows_after, around_after, empty_rows, around_of, rows_of}
 use Rattle.decl_table.proofs.Order.{Each, Ordered, statements_in, extents_ordered, ordered_filter, each_of, tree_rises}
 use Rattle.decl_table.proofs.Rising.{Rise}
 use Rattle.decl_table.proofs.Numbers.{Stand, last_from, last_found, number_is}

@@ -8,8 +8,8 @@ use Rattle.ftn_tree.specs.Extents.{scoping}
 use Rattle.ftn_tree.specs.Scopes.{host_number, own_statements, path_of}
 use Rattle.ftn_tree.specs.ScopeLetters.{entries_of}
 use Rattle.ftn_tree.specs.Projects.{AreTrees}
-use Rattle.decl_table.specs.Rows.{Row, rows_of}
-use Rattle.decl_table.specs.Steps.{own_by, path_by, entries_by}
+use Rattle.decl_table.specs.steps.Rows.{Row, rows_of}
+use Rattle.decl_table.specs.steps.Following.{own_by, path_by, entries_by}
 use Rattle.decl_table.proofs.Arounds.{split_at}
 use Rattle.decl_table.proofs.OwnStatements.{own_are}
 use Rattle.decl_table.proofs.Paths.{path_is, entries_are}

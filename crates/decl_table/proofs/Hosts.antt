@@ -8,7 +8,7 @@ use Rattle.std.proofs.lemmas.Iterator.Adapters.{position_from-zero}
 use Rattle.ftn_tree.specs.declared.table.Extent.{Extent}
 use Rattle.ftn_tree.specs.declared.unit.FileTree.{FileTree}
 use Rattle.ftn_tree.specs.Extents.{covers, encloses, same_extent, innermost}
-use Rattle.decl_table.specs.Rows.{number_at, rows_after, empty_rows}
+use Rattle.decl_table.specs.steps.Rows.{number_at, rows_after, empty_rows}
 use Rattle.decl_table.proofs.Order.{Each, Comes, Within, Ordered, statements_in}
 use Rattle.decl_table.proofs.Numbers.{Stand, last_found, number_is}
 

@@ -9,3 +9,11 @@ pub mod Arounds
 pub mod Paths
 pub mod OwnStatements
 pub mod Entries
+pub mod FindingOrder
+pub mod FirstRules
+pub mod FirstSayings
+pub mod Gathering
+pub mod KnownNames
+pub mod NameFindings
+pub mod Places
+pub mod SayingTurns

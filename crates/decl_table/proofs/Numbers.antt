@@ -9,7 +9,7 @@ use Rattle.std.proofs.lemmas.Bool.Decides.{nat_tests}
 use Rattle.ftn_tree.specs.declared.table.Extent.{Extent}
 use Rattle.ftn_tree.specs.declared.unit.FileTree.{FileTree}
 use Rattle.ftn_tree.specs.Extents.{covers}
-use Rattle.decl_table.specs.Rows.{Row, number_in, number_at, painted_from, painted, unpainted, empty_rows, with_extent, rows_after}
+use Rattle.decl_table.specs.steps.Rows.{Row, number_in, number_at, painted_from, painted, unpainted, empty_rows, with_extent, rows_after}
 use Rattle.decl_table.proofs.Painting.{painted_long}
 use Rattle.decl_table.proofs.Order.{statements_in}
 

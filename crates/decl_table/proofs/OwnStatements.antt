@@ -6,14 +6,14 @@ use Rattle.std.specs.Option.{option_and_then}
 use Rattle.std.proofs.lemmas.Bool.Decides.{nat_tests}
 use Rattle.ftn_tree.specs.declared.table.Extent.{Extent}
 use Rattle.ftn_tree.specs.Extents.{same_extent, is_some_extent}
-use Rattle.decl_table.specs.Steps.{is_number, own_by}
+use Rattle.decl_table.specs.steps.Following.{is_number, own_by}
 use Rattle.std.specs.List.{filter, range_with_len}
 use Rattle.std.proofs.lemmas.Bool.{cases_eq}
 use Rattle.ftn_tree.specs.declared.unit.FileTree.{FileTree}
 use Rattle.ftn_tree.specs.Extents.{scoping, scope_of}
 use Rattle.ftn_tree.specs.Scopes.{scope_number, own_statements}
 use Rattle.ftn_tree.specs.Projects.{AreTrees}
-use Rattle.decl_table.specs.Rows.{number_at, rows_of}
+use Rattle.decl_table.specs.steps.Rows.{number_at, rows_of}
 use Rattle.decl_table.proofs.Order.{Within, Ordered, statements_in}
 use Rattle.decl_table.proofs.Hosts.{before_it, after_it, position_is}
 use Rattle.decl_table.proofs.Arounds.{ordered_units, statement_scope, scope_there, split_at}

@@ -3,7 +3,7 @@
 ghost use Rattle.std.specs.Prelude.{◌≡◌, fold, map as map_of};
 ghost use Rattle.std.specs.List.{flat_map};
 ghost use Rattle.ftn_tree.specs.ScopeLetters as spec;
-ghost use Rattle.decl_table.specs.Steps as steps;
+ghost use Rattle.decl_table.specs.steps.Following as steps;
 
 use crate::forms::{form_at, name_at};
 use ftn_base::{Length, Letter, Ty};

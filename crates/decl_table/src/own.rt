@@ -1,7 +1,7 @@
 //! The statements that stand in a scoping unit and in no other one inside it.
 
 ghost use Rattle.std.specs.Prelude.{◌≡◌, ◌++◌, IfOk, OnOk};
-ghost use Rattle.decl_table.specs.Steps as spec;
+ghost use Rattle.decl_table.specs.steps.Following as spec;
 
 use crate::rows::{Row, number_at};
 use ftn_base::NoMemory;

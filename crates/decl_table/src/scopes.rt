@@ -6,9 +6,9 @@ ghost use Rattle.ftn_tree.specs.Extents as spec;
 ghost use Rattle.ftn_tree.specs.ScopeLetters as implicit;
 ghost use Rattle.ftn_tree.specs.Scopes as scopes;
 ghost use Rattle.ftn_tree.specs.Projects.{AreTrees};
-ghost use Rattle.decl_table.specs.Located.{IsScoping};
-ghost use Rattle.decl_table.specs.Rows.{rows_of};
-ghost use Rattle.decl_table.specs.Steps as steps;
+ghost use Rattle.decl_table.specs.steps.Located.{IsScoping};
+ghost use Rattle.decl_table.specs.steps.Rows.{rows_of};
+ghost use Rattle.decl_table.specs.steps.Following as steps;
 
 use crate::forms::{first_token_at, span_of};
 use crate::letters::after_own;

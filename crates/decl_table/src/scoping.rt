@@ -5,8 +5,8 @@ ghost use Rattle.std.specs.List.{filter};
 ghost use Rattle.ftn_tree.specs.Extents as spec;
 ghost use Rattle.ftn_tree.specs.Scopes as scopes;
 ghost use Rattle.ftn_tree.specs.Projects.{AreTrees};
-ghost use Rattle.decl_table.specs.Located.{IsScoping, is_interface_number};
-ghost use Rattle.decl_table.specs.Rows as rows;
+ghost use Rattle.decl_table.specs.steps.Located.{IsScoping, is_interface_number};
+ghost use Rattle.decl_table.specs.steps.Rows as rows;
 
 use crate::extents::extents;
 use crate::forms::{form_at, is_interface, name_at, name_token};

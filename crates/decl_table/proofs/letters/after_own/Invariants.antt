@@ -1,5 +1,5 @@
 use Rattle.std.proofs.Common.{◌≡◌, drop, fold}
-use Rattle.decl_table.specs.Steps.{letters_after}
+use Rattle.decl_table.specs.steps.Following.{letters_after}
 use Rattle.decl_table.proofs.letters.after_own.Given as goal
 
 abbrev pub invariant-loop-statement : goal.invariant-loop-statement

@@ -1,6 +1,6 @@
 use Rattle.std.proofs.Common.{◌+◌}
-use Rattle.decl_table.specs.Rows.{number_at}
-use Rattle.decl_table.specs.Steps.{is_number, own_by}
+use Rattle.decl_table.specs.steps.Rows.{number_at}
+use Rattle.decl_table.specs.steps.Following.{is_number, own_by}
 use Rattle.decl_table.proofs.OwnStatements.{own_next, own_done}
 use Rattle.decl_table.proofs.own.own_statements.Goals as goal
 

@@ -7,7 +7,7 @@ use Rattle.ftn_tree.specs.declared.unit.FileTree.{FileTree}
 use Rattle.ftn_tree.specs.Extents.{scoping, is_body, is_some_interface}
 use Rattle.ftn_tree.specs.Scopes.{host_number}
 use Rattle.decl_table.specs.declared.scoping.Scoping.{Scoping}
-use Rattle.decl_table.specs.Rows.{rows_of}
+use Rattle.decl_table.specs.steps.Rows.{rows_of}
 
 -- whether the extent of that number is an interface block
 abbrev pub is_interface_number : List FileTree → List Extent → Option ℕ → Bool

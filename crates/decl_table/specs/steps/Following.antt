@@ -11,7 +11,7 @@ use Rattle.ftn_tree.specs.Extents.{layer_at}
 use Rattle.ftn_tree.specs.declared.unit.FileTree.{FileTree}
 use Rattle.ftn_tree.specs.Scopes.{scope_name}
 use Rattle.ftn_tree.specs.ScopeLetters.{after_own, after_statement, whole_at}
-use Rattle.decl_table.specs.Rows.{Row, number_at}
+use Rattle.decl_table.specs.steps.Rows.{Row, number_at}
 
 -- by the paths of the scoping units before it
 abbrev pub path_by : List FileTree → Extent → Option ℕ → List (List ℕ) → List ℕ
