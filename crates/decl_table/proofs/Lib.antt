@@ -17,3 +17,4 @@ pub mod KnownNames
 pub mod NameFindings
 pub mod Places
 pub mod SayingTurns
+pub mod Said

@@ -18,7 +18,7 @@ use Rattle.decl_table.proofs.Order.{Within, Ordered, statements_in}
 use Rattle.decl_table.proofs.Hosts.{before_it, after_it, position_is}
 use Rattle.decl_table.proofs.Arounds.{ordered_units, statement_scope, scope_there, split_at}
 
-number_of : (files : List FileTree) → AreTrees files → (i : ℕ) (e : Extent) → slice_get (scoping files) i ≡ Some e → scope_number files e ≡ Some i
+pub number_of : (files : List FileTree) → AreTrees files → (i : ℕ) (e : Extent) → slice_get (scoping files) i ≡ Some e → scope_number files e ≡ Some i
 number_of files are i e there =
     let (a, b, split, long) = split_at (scoping files) i e there in
     ap (λ es. position (same_extent e) es) split
@@ -44,7 +44,7 @@ same_self : (e : Extent) → same_extent e e ≡ true
 same_self e = grind (arith, nat_tests)
 
 -- an extent of that number is another one exactly where its number is another
-told_apart : (files : List FileTree) → AreTrees files → (i j : ℕ) (e x : Extent) → slice_get (scoping files) i ≡ Some e → slice_get (scoping files) j ≡ Some x
+pub told_apart : (files : List FileTree) → AreTrees files → (i j : ℕ) (e x : Extent) → slice_get (scoping files) i ≡ Some e → slice_get (scoping files) j ≡ Some x
     → (j == i) ≡ same_extent e x
 told_apart files are i j e x here there = elim (cases_eq j i) [
   | inl same ↦
@@ -77,7 +77,7 @@ same_filter f g a (suc n) same =
     rw (same a (omega arith) (omega arith))
     (ap (λ (more : List ℕ). if g a then a ∷ more else more) (same_filter f g (a + 1) n (λ k low high. same k (omega arith) (omega arith))))
 
-within_file : (files : List FileTree) → AreTrees files → (i : ℕ) (e : Extent) → slice_get (scoping files) i ≡ Some e → Within (λ file. statements_in file files) e
+pub within_file : (files : List FileTree) → AreTrees files → (i : ℕ) (e : Extent) → slice_get (scoping files) i ≡ Some e → Within (λ file. statements_in file files) e
 within_file files are i e here =
     let (a, b, split, long) = split_at (scoping files) i e here in
     (after_it (λ file. statements_in file files) a e b (subst (Ordered (λ file. statements_in file files)) split (ordered_units files are))).0

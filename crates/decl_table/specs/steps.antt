@@ -7,3 +7,4 @@ pub mod Rules
 pub mod Rows
 pub mod Located
 pub mod Following
+pub mod Said

@@ -17,6 +17,7 @@ mod own;
 mod rows;
 mod rules;
 mod saying;
+mod sayings;
 mod scopes;
 mod scoping;
 

@@ -9,7 +9,7 @@ use ftn_tree::Extent;
 use std::alloc::Global;
 
 /// Whether it is that number.
-fn is_number(number: u32, found: Option<u32>) -> bool
+pub(crate) fn is_number(number: u32, found: Option<u32>) -> bool
     ensures { result ≡ spec.is_number number found }
 {
     match found {

@@ -13,7 +13,7 @@ ghost use Rattle.decl_table.specs.steps.Following as steps;
 use crate::forms::{first_token_at, span_of};
 use crate::letters::after_own;
 use crate::own::own_statements;
-use crate::scoping::{Scoping, kind_of, scope_name, scoping_units};
+use crate::scoping::{Scoping, kind_of, scope_name, scoping_units, unit_at};
 use ftn_base::{Bytes, Letter, NoMemory};
 use ftn_tree::{Extent, FileTree, Scope, StatementId};
 use implicit_type::LetterMap;
@@ -111,21 +111,6 @@ fn entry_of(
         },
         letters,
     }
-}
-
-/// The scoping unit of that number, whether it is an interface body, and the number of its host.
-fn unit_at(files: &[FileTree], scoping: &Scoping, number: u32) -> (Extent, bool, Option<u32>)
-    requires known { IsScoping files.now scoping.now }
-    requires within { number < length (spec.scoping files.now) }
-    ensures unit { slice_get (spec.scoping files.now) number ≡ Some result.0 }
-    ensures body { result.1 ≡ spec.is_body files.now result.0 }
-    ensures host { result.2 ≡ scopes.host_number files.now result.0 }
-{
-    (
-        scoping.units[number as usize],
-        scoping.bodies[number as usize],
-        scoping.hosts[number as usize],
-    )
 }
 
 /// Adds the entry of the scoping unit of that number, its path and its letters to those of all before it.
