@@ -4,6 +4,7 @@ use Rattle.std.specs.Prelude.{◌==◌, nat_le, slice_get, ◌⊎◌}
 use Rattle.std.specs.List.{filter, find, flat_map, last_or, range_with_len}
 use Rattle.std.specs.Option.{option_and_then}
 use Rattle.std.proofs.lemmas.Bool.Decides.{nat_tests}
+use Rattle.std.proofs.lemmas.Option.{slice_get_within}
 use Rattle.ftn_tree.specs.declared.mention.Mention.{Mention}
 use Rattle.ftn_tree.specs.declared.table.Extent.{Extent}
 use Rattle.ftn_tree.specs.declared.unit.FileTree.{FileTree}
@@ -12,13 +13,13 @@ use Rattle.ftn_tree.specs.Projects.{AreTrees}
 use Rattle.ftn_tree.specs.Sayings.{mentions_at, inner_mention, opened_at, inner_at, said_at}
 use Rattle.ftn_tree.specs.Scopes.{host_number, scope_number, all_statements}
 use Rattle.decl_table.specs.steps.Following.{is_number}
-use Rattle.decl_table.specs.steps.Rows.{number_at, rows_of, empty_rows}
-use Rattle.decl_table.specs.steps.Said.{inner_by, said_by}
+use Rattle.decl_table.specs.steps.Rows.{Row, number_at, rows_of}
+use Rattle.decl_table.specs.steps.Said.{inner_by, said_by, IsWithin}
 use Rattle.decl_table.proofs.Order.{Each, Comes, Within, Ordered, statements_in}
 use Rattle.decl_table.proofs.Numbers.{last_from, last_found, number_is}
 use Rattle.decl_table.proofs.Hosts.{before_it, after_it}
 use Rattle.decl_table.proofs.Chains.{Split, none_of, last_split}
-use Rattle.decl_table.proofs.Arounds.{ordered_units, split_at, stands_whole}
+use Rattle.decl_table.proofs.Arounds.{There, ordered_units, last_there, stands_whole}
 use Rattle.decl_table.proofs.OwnStatements.{number_of, told_apart, own_test, within_file}
 
 -- ---- which extent opens at a statement
@@ -146,3 +147,40 @@ said_is files are i e here statement less =
     stood =
         ap (option_and_then (slice_get (scoping files))) (number_is files (scoping files) e.file statement less)
         ∙ last_found (scoping files) 0 (covers e.file statement) (scoping files) None None (stands_whole (scoping files)) refl
+
+-- ---- one statement after the other
+
+stated : (whole : List Extent) (found : Option ℕ) → There whole found → IsWithin (length whole) found
+stated whole None there = tt
+stated whole (Some j) (x, is) = slice_get_within whole j x is
+
+pub number_within : (files : List FileTree) → AreTrees files → (i : ℕ) (e : Extent) → slice_get (scoping files) i ≡ Some e → (statement : ℕ) → e.opening ≤ statement → statement ≤ e.ending
+    → (statement < statements_in e.file files) × IsWithin (length (scoping files)) (number_at (rows_of files (scoping files)) e.file statement)
+number_within files are i e here statement low high =
+    let (order, end) = within_file files are i e here in
+    let less : statement < statements_in e.file files = omega (arith, order, end, low, high) in
+    (less, subst (IsWithin (length (scoping files))) (sym (number_is files (scoping files) e.file statement less))
+    (stated (scoping files) (last_from 0 (covers e.file statement) None (scoping files))
+    (last_there (scoping files) 0 (covers e.file statement) (scoping files) None (stands_whole (scoping files)) tt)))
+
+pub pushed_said : (files : List FileTree) → AreTrees files → (i : ℕ) (e : Extent) → slice_get (scoping files) i ≡ Some e → (statement : ℕ) → e.opening ≤ statement → statement ≤ e.ending
+    → (rows : List Row) → rows ≡ rows_of files (scoping files) → said_by files i e.file statement (number_at rows e.file statement) ≡ said_at files e statement
+pushed_said files are i e here statement low high rows is =
+    ap (λ rows. said_by files i e.file statement (number_at rows e.file statement)) is
+    ∙ said_is files are i e here statement ((number_within files are i e here statement low high).0)
+
+pub flat_next : {A : Type 0} (f : ℕ → List A) (whole old new : List A) (at end : ℕ) → at < end → whole ≡ old ++ flat_map f (range_with_len at (end - at))
+    → new ≡ old ++ f at → whole ≡ new ++ flat_map f (range_with_len (at + 1) (end - (at + 1)))
+flat_next f whole old new at end less is made =
+    is
+    ∙ ap (λ n. old ++ flat_map f (range_with_len at n)) left
+    ∙ sym (append_assoc old (f at) (flat_map f (range_with_len (at + 1) (end - (at + 1)))))
+    ∙ ap (λ front. front ++ flat_map f (range_with_len (at + 1) (end - (at + 1)))) (sym made)
+  where
+    left : end - at ≡ suc (end - (at + 1))
+    left = omega arith
+
+pub flat_done : {A : Type 0} (f : ℕ → List A) (whole old : List A) (at end : ℕ) → end ≤ at → whole ≡ old ++ flat_map f (range_with_len at (end - at)) → old ≡ whole
+flat_done f whole old at end past is =
+    let none : end - at ≡ 0 = omega arith in
+    sym (is ∙ ap (λ n. old ++ flat_map f (range_with_len at n)) none ∙ append-nil old)

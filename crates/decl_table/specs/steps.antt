@@ -8,3 +8,4 @@ pub mod Rows
 pub mod Located
 pub mod Following
 pub mod Said
+pub mod Statements

@@ -13,6 +13,7 @@ use ftn_tree::{
 };
 use implicit_type::LetterMap;
 use sqlite_items::Items;
+use std::marker::Model;
 
 /// A whole number that isn't negative, and 0 for all else.
 fn count_of(number: i32) -> u32
@@ -97,6 +98,40 @@ fn last_of(range: &LetterRange) -> u32
     }
 }
 
+/// Letters from one to another by their codes, with their type and the first token of their range.
+#[derive(Drop)]
+pub(crate) struct Given {
+    pub(crate) token: u32,
+    pub(crate) from: u8,
+    pub(crate) to: u8,
+    pub(crate) letter: Letter,
+}
+
+impl Model for Given {
+    ghost use Rattle.ftn_tree.specs.ScopeLetters.{Given};
+
+    ghost Value = { Given };
+
+    ghost view = { λ g. record { token = g.token; from = g.from; to = g.to; letter = g.letter } };
+}
+
+/// The letters that a range gives.
+pub(crate) fn given_range(
+    files: &[FileTree],
+    file: u32,
+    written: &ImplicitType,
+    range: &LetterRange,
+) -> Given
+    ensures { result ≡ spec.given_range files.now file written.now range.now }
+{
+    Given {
+        token: range.first,
+        from: code_at(files, file, range.first),
+        to: code_at(files, file, last_of(range)),
+        letter: letter_type(written),
+    }
+}
+
 /// The letters after a range.
 fn after_range(
     files: &[FileTree],
@@ -107,11 +142,14 @@ fn after_range(
 ) -> LetterMap
     ensures { result ≡ spec.put_given map.now (spec.given_range files.now file written.now range.now) }
 {
-    map.given(
-        code_at(files, file, range.first),
-        code_at(files, file, last_of(range)),
-        letter_type(written),
-    )
+    put_given(map, &given_range(files, file, written, range))
+}
+
+/// The letters after those that are given.
+pub(crate) fn put_given(map: &LetterMap, given: &Given) -> LetterMap
+    ensures { result ≡ spec.put_given map.now given.now }
+{
+    map.given(given.from, given.to, given.letter)
 }
 
 /// The letters after all ranges of a group.

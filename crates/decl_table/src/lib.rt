@@ -20,6 +20,7 @@ mod saying;
 mod sayings;
 mod scopes;
 mod scoping;
+mod statements;
 
 pub use finding::{Finding, Place};
 pub use names::first_of_names;

@@ -1,5 +1,5 @@
 -- What is said in a scoping unit, by the numbers of statements and hosts: what the code does.
-use Rattle.std.specs.Prelude.{ℕ, ◌==◌, ◌&&◌, if◌then◌else◌, List, [], slice_get, Option, Some, None}
+use Rattle.std.specs.Prelude.{ℕ, ◌<◌, ◌==◌, ◌&&◌, if◌then◌else◌, List, [], slice_get, Option, Some, None}
 use Rattle.std.specs.Option.{option_and_then}
 use Rattle.ftn_tree.specs.declared.mention.Mention.{Mention}
 use Rattle.ftn_tree.specs.declared.table.Extent.{Extent}
@@ -19,3 +19,8 @@ abbrev pub said_by : List FileTree → ℕ → ℕ → ℕ → Option ℕ → Li
 said_by files number file statement found =
     if is_number number found then mentions_at files file statement
     else inner_by files number statement (option_and_then (slice_get (scoping files)) found)
+
+-- the number is below that
+abbrev pub IsWithin : ℕ → Option ℕ → Type 0
+IsWithin count None = Unit {0}
+IsWithin count (Some number) = number < count
