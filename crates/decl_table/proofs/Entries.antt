@@ -1,6 +1,7 @@
 -- The entries of scoping units, one after the other.
-use Rattle.std.proofs.Common.{◌≡◌, ℕ, suc, ◌+◌, ◌<◌, List, [], ◌∷◌, ◌++◌, length, get_or, take, drop, Option, Some, map, fold, refl, sym, ap, ◌∙◌, arith, drop-cons}
+use Rattle.std.proofs.Common.{◌≡◌, ℕ, suc, ◌+◌, ◌<◌, List, [], ◌∷◌, ◌++◌, length, get_or, take, drop, Option, Some, map, fold, refl, sym, ap, ◌∙◌, arith, append_assoc, append-nil, drop-cons}
 use Rattle.std.specs.Prelude.{slice_get}
+use Rattle.std.specs.List.{flat_map}
 use Rattle.ftn_base.specs.ImplicitLetters.{Entry}
 use Rattle.ftn_tree.specs.declared.table.Extent.{Extent}
 use Rattle.ftn_tree.specs.declared.unit.FileTree.{FileTree}
@@ -46,6 +47,22 @@ one_more f all n e there =
     ∙ ap (map f) (front_more pre post e)
     ∙ map_push f pre e
     ∙ ap (λ es. map f es ++ f e ∷ []) (sym (front pre post e) ∙ ap (λ k. take k (pre ++ e ∷ post)) long ∙ ap (take n) (sym split))
+  where
+    after : (n k : ℕ) → k ≡ n → n + 1 ≡ suc k
+    after n k long = omega arith
+
+flat_push : {A : Type 0} (f : Extent → List A) (pre : List Extent) (e : Extent) → flat_map f (pre ++ e ∷ []) ≡ flat_map f pre ++ f e
+flat_push f [] e = append-nil (f e)
+flat_push f (x ∷ pre) e = ap (λ ys. f x ++ ys) (flat_push f pre e) ∙ sym (append_assoc (f x) (flat_map f pre) (f e))
+
+pub flat_more : {A : Type 0} (f : Extent → List A) (all : List Extent) (n : ℕ) (e : Extent) → slice_get all n ≡ Some e → flat_map f (take (n + 1) all) ≡ flat_map f (take n all) ++ f e
+flat_more f all n e there =
+    let (pre, post, split, long) = split_at all n e there in
+    ap (λ es. flat_map f (take (n + 1) es)) split
+    ∙ ap (λ k. flat_map f (take k (pre ++ e ∷ post))) (after n (length pre) long)
+    ∙ ap (flat_map f) (front_more pre post e)
+    ∙ flat_push f pre e
+    ∙ ap (λ es. flat_map f es ++ f e) (sym (front pre post e) ∙ ap (λ k. take k (pre ++ e ∷ post)) long ∙ ap (take n) (sym split))
   where
     after : (n k : ℕ) → k ≡ n → n + 1 ≡ suc k
     after n k long = omega arith

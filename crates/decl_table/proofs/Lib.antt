@@ -18,3 +18,4 @@ pub mod NameFindings
 pub mod Places
 pub mod SayingTurns
 pub mod Said
+pub mod StatementFaults

@@ -18,6 +18,7 @@ mod rows;
 mod rules;
 mod saying;
 mod sayings;
+mod scope_faults;
 mod scopes;
 mod scoping;
 mod statements;

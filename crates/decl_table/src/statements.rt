@@ -6,13 +6,15 @@ ghost use Rattle.ftn_base.specs.ImplicitLetters as letters;
 ghost use Rattle.ftn_tree.specs.DeclarationFaults as spec;
 ghost use Rattle.ftn_tree.specs.Extents.{layer_at};
 ghost use Rattle.ftn_tree.specs.ScopeLetters as implicit;
+ghost use Rattle.ftn_tree.specs.Scopes as scopes;
 ghost use Rattle.decl_table.specs.steps.Statements as steps;
 
 use crate::finding::{Finding, Place, earlier};
 use crate::forms::{first_token_at, form_at};
 use crate::letters::{Given, given_range, put_given};
+use crate::names::is_module;
 use ftn_base::{FaultKind, NoMemory};
-use ftn_tree::{FileTree, Form, ImplicitType, LetterGroup, LetterRange};
+use ftn_tree::{Extent, FileTree, Form, ImplicitType, LetterGroup, LetterRange, ScopeKind};
 use implicit_type::LetterMap;
 use std::alloc::Global;
 
@@ -228,4 +230,42 @@ fn default_accesses(
         push_first(files, file, *statement, holds, &mut tokens)?;
     }
     Ok(tokens)
+}
+
+/// The same outside of modules, and none in a module.
+fn accesses(
+    alloc: Global,
+    files: &[FileTree],
+    file: u32,
+    kind: ScopeKind,
+    own: &[u32],
+) -> Result<Vec<u32>, NoMemory>
+    ensures { IfOk result (λ tokens. tokens.items ≡ steps.access_by files.now file kind own.now) }
+{
+    if is_module(kind) {
+        return Ok(Vec::new(alloc));
+    }
+    default_accesses(alloc, files, file, own)
+}
+
+/// The first fault of IMPLICIT statements in a scoping unit, or of PUBLIC or PRIVATE without names outside of modules.
+pub(crate) fn statements_fault(
+    alloc: Global,
+    files: &[FileTree],
+    unit: Extent,
+    kind: ScopeKind,
+    own: &[u32],
+) -> Result<Option<Finding>, NoMemory>
+    requires kind { kind ≡ scopes.scope_kind files.now unit }
+    requires own { own.now ≡ scopes.own_statements files.now unit }
+    ensures { IfOk result (λ found. found ≡ spec.first_finding spec.declaration_rank (spec.letter_faults files.now unit ++ (spec.none_faults files.now unit ++ spec.access_faults files.now unit))) }
+{
+    let givens = givens_among(alloc, files, unit.file, own)?;
+    let again = given_again(alloc, &givens)?;
+    let beside = beside_none(alloc, files, unit.file, own)?;
+    let access = accesses(alloc, files, unit.file, kind, own)?;
+    let letters = first_at(unit.file, &again);
+    let none = first_at(unit.file, &beside);
+    let last = first_at(unit.file, &access);
+    Ok(earlier(letters, earlier(none, last)))
 }
