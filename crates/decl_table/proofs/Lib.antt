@@ -19,3 +19,4 @@ pub mod Places
 pub mod SayingTurns
 pub mod Said
 pub mod StatementFaults
+pub mod GlobalPairs

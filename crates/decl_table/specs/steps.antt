@@ -9,3 +9,4 @@ pub mod Located
 pub mod Following
 pub mod Said
 pub mod Statements
+pub mod Globals
