@@ -1,13 +1,13 @@
 -- Global names and where they are given first: what the code does.
-use Rattle.std.specs.Prelude.{ℕ, if◌then◌else◌, List, [], ◌∷◌, ◌++◌, map, Option, Some, None}
-use Rattle.std.specs.List.{find}
-use Rattle.std.specs.Option.{option_map, option_map_or}
+use Rattle.std.specs.Prelude.{◌≡◌, ℕ, List, [], map, Option, Some, None}
+use Rattle.std.specs.List.{find, flat_map}
+use Rattle.std.specs.Option.{option_map}
 use Rattle.std.specs.Borrow.{Bor}
 use Rattle.std.specs.Str.{bytes_eq}
 use Rattle.indexmap.specs.IndexMap.{IndexMap, get_by}
 use Rattle.ftn_base.specs.declared.fault.FaultKind.TheVariants.{Twice}
-use Rattle.ftn_tree.specs.DeclarationFaults.{Finding, found_with}
-use Rattle.ftn_tree.specs.GlobalNames.{Place, Global, same_name, place, in_turn}
+use Rattle.ftn_tree.specs.DeclarationFaults.{Finding, found_with, first_finding, declaration_rank}
+use Rattle.ftn_tree.specs.GlobalNames.{Place, Global, same_name, place, in_turn, block_pair, firsts_after}
 use Rattle.decl_table.specs.declared.globals.At.{At}
 use Rattle.decl_table.specs.declared.globals.Seen.{Seen}
 
@@ -41,3 +41,13 @@ of_pair pair = found_with Twice pair.0 pair.1
 abbrev pub twice_in_turn : Place → Option At → Option Finding
 twice_in_turn block None = None
 twice_in_turn block (Some unit) = Some (of_pair (in_turn (place_of unit) block))
+
+-- what is kept is the first of each name
+abbrev pub Keeps : (Option (List ℕ) → Option At) → List Global → Type 0
+Keeps kept globals = (name : Option (List ℕ)) → kept name ≡ option_map at_of (first_named name globals)
+
+abbrev pub first_of : List (Place × Place) → Option Finding
+first_of pairs = first_finding declaration_rank (map of_pair pairs)
+
+abbrev pub block_pairs : List Global → List Global → List (Place × Place)
+block_pairs units blocks = flat_map (block_pair units) (firsts_after [] blocks)
