@@ -20,3 +20,4 @@ pub mod SayingTurns
 pub mod Said
 pub mod StatementFaults
 pub mod GlobalPairs
+pub mod GlobalLists

@@ -89,7 +89,7 @@ opened_is count file statement es x ordered (a, b, is, covered, none) =
 
 -- ---- hosts
 
-host_there : (files : List FileTree) (x h : Extent) → host_of files x ≡ Some h → (j : ℕ) × (slice_get (scoping files) j ≡ Some h)
+pub host_there : (files : List FileTree) (x h : Extent) → host_of files x ≡ Some h → (j : ℕ) × (slice_get (scoping files) j ≡ Some h)
 host_there files x h found = by (last_split (encloses x.file x.opening) None h (scoping files) found) where
   at : (a : List Extent) (b : List Extent) → slice_get (a ++ h ∷ b) (length a) ≡ Some h
   at [] b = refl

@@ -10,3 +10,4 @@ pub mod Following
 pub mod Said
 pub mod Statements
 pub mod Globals
+pub mod GlobalLists

@@ -10,6 +10,7 @@ mod extents;
 mod finding;
 mod firsts;
 mod forms;
+mod global_names;
 mod globals;
 mod known_names;
 mod letters;

@@ -22,7 +22,7 @@ use ftn_tree::{Extent, FileTree, Mention, Role, ScopeKind};
 use std::alloc::Global;
 
 /// Adds the names in a statement of a file.
-fn push_statement(
+pub(crate) fn push_statement(
     alloc: Global,
     files: &[FileTree],
     file: u32,
