@@ -1,16 +1,15 @@
 -- Global names, one after the other, and those that are given twice.
-use Rattle.std.proofs.Common.{◌≡◌, ℕ, zero, suc, ◌+◌, ◌<◌, Bool, true, false, ◌||◌, cond, List, [], ◌∷◌, ◌++◌, length, get_or, take, Option, Some, None, map, Bor, bytes_eq, refl, sym, ap, ◌∙◌, subst, arith, append-nil, append_assoc, if◌then◌else◌}
+use Rattle.std.proofs.Common.{◌≡◌, ℕ, Bool, true, false, ◌||◌, cond, List, [], ◌∷◌, ◌++◌, Option, Some, None, map, Bor, bytes_eq, refl, sym, ap, ◌∙◌, subst, append-nil, append_assoc, if◌then◌else◌}
 use Rattle.std.specs.Prelude.{is_some}
-use Rattle.std.specs.List.{find, flat_map, list_any}
+use Rattle.std.specs.List.{flat_map, list_any}
 use Rattle.std.specs.Map.{lookup}
 use Rattle.std.specs.Option.{option_map, option_map_or, option_or}
-use Rattle.std.proofs.lemmas.List.Folds.{find-append}
 use Rattle.std.proofs.lemmas.Slice.Eq.{bytes_eq-Decides}
 use Rattle.indexmap.specs.IndexMap.{insert_entry}
 use Rattle.ftn_tree.specs.DeclarationFaults.{Finding, first_finding, declaration_rank}
 use Rattle.ftn_tree.specs.GlobalNames.{Place, Global, same_name, unit_pairs, firsts_after, block_pair, in_turn}
 use Rattle.decl_table.specs.declared.globals.At.{At}
-use Rattle.decl_table.specs.steps.Globals.{Keeps, block_pairs, at_of, place_of, first_named, first_of, of_pair, twice, twice_in_turn}
+use Rattle.decl_table.specs.steps.Globals.{Keeps, block_pairs, at_of, first_named, first_of, of_pair, twice, twice_in_turn}
 use Rattle.decl_table.proofs.KnownNames.{lookup-insert_entry}
 
 -- ---- what a map keeps

@@ -1,23 +1,23 @@
 -- What is said at a statement, by the numbers of statements and hosts.
-use Rattle.std.proofs.Common.{◌≡◌, ℕ, zero, suc, ◌+◌, ◌-◌, ◌≤◌, ◌<◌, Bool, true, false, ◌&&◌, List, [], ◌∷◌, ◌++◌, length, Option, Some, None, refl, sym, ap, ◌∙◌, subst, inl, inr, arith, append_assoc, append-nil, if◌then◌else◌}
-use Rattle.std.specs.Prelude.{◌==◌, nat_le, slice_get, ◌⊎◌}
-use Rattle.std.specs.List.{filter, find, flat_map, last_or, range_with_len}
+use Rattle.std.proofs.Common.{◌≡◌, ℕ, suc, ◌+◌, ◌-◌, ◌≤◌, ◌<◌, Bool, true, false, ◌&&◌, List, [], ◌∷◌, ◌++◌, length, Option, Some, None, refl, sym, ap, ◌∙◌, subst, inl, inr, arith, append_assoc, append-nil, if◌then◌else◌}
+use Rattle.std.specs.Prelude.{◌==◌, slice_get, ◌⊎◌}
+use Rattle.std.specs.List.{filter, find, flat_map, range_with_len}
 use Rattle.std.specs.Option.{option_and_then}
 use Rattle.std.proofs.lemmas.Bool.Decides.{nat_tests}
 use Rattle.std.proofs.lemmas.Option.{slice_get_within}
 use Rattle.ftn_tree.specs.declared.mention.Mention.{Mention}
 use Rattle.ftn_tree.specs.declared.table.Extent.{Extent}
 use Rattle.ftn_tree.specs.declared.unit.FileTree.{FileTree}
-use Rattle.ftn_tree.specs.Extents.{covers, encloses, scoping, scope_of, host_of, is_some_extent, same_extent}
+use Rattle.ftn_tree.specs.Extents.{covers, encloses, scoping, scope_of, host_of, is_some_extent}
 use Rattle.ftn_tree.specs.Projects.{AreTrees}
 use Rattle.ftn_tree.specs.Sayings.{mentions_at, inner_mention, opened_at, inner_at, said_at}
-use Rattle.ftn_tree.specs.Scopes.{host_number, scope_number, all_statements}
+use Rattle.ftn_tree.specs.Scopes.{host_number, scope_number}
 use Rattle.decl_table.specs.steps.Following.{is_number}
 use Rattle.decl_table.specs.steps.Rows.{Row, number_at, rows_of}
 use Rattle.decl_table.specs.steps.Said.{inner_by, said_by, IsWithin}
-use Rattle.decl_table.proofs.Order.{Each, Comes, Within, Ordered, statements_in}
+use Rattle.decl_table.proofs.Order.{Each, Comes, Ordered, statements_in}
 use Rattle.decl_table.proofs.Numbers.{last_from, last_found, number_is}
-use Rattle.decl_table.proofs.Hosts.{before_it, after_it}
+use Rattle.decl_table.proofs.Hosts.{before_it}
 use Rattle.decl_table.proofs.Chains.{Split, none_of, last_split}
 use Rattle.decl_table.proofs.Arounds.{There, ordered_units, last_there, stands_whole}
 use Rattle.decl_table.proofs.OwnStatements.{number_of, told_apart, own_test, within_file}
@@ -158,10 +158,12 @@ pub number_within : (files : List FileTree) → AreTrees files → (i : ℕ) (e 
     → (statement < statements_in e.file files) × IsWithin (length (scoping files)) (number_at (rows_of files (scoping files)) e.file statement)
 number_within files are i e here statement low high =
     let (order, end) = within_file files are i e here in
-    let less : statement < statements_in e.file files = omega (arith, order, end, low, high) in
-    (less, subst (IsWithin (length (scoping files))) (sym (number_is files (scoping files) e.file statement less))
-    (stated (scoping files) (last_from 0 (covers e.file statement) None (scoping files))
-    (last_there (scoping files) 0 (covers e.file statement) (scoping files) None (stands_whole (scoping files)) tt)))
+    let less : statement < statements_in e.file files = omega (arith, order, end, low, high) in (
+      less,
+      subst (IsWithin (length (scoping files))) (sym (number_is files (scoping files) e.file statement less))
+          (stated (scoping files) (last_from 0 (covers e.file statement) None (scoping files))
+          (last_there (scoping files) 0 (covers e.file statement) (scoping files) None (stands_whole (scoping files)) tt)),
+    )
 
 pub pushed_said : (files : List FileTree) → AreTrees files → (i : ℕ) (e : Extent) → slice_get (scoping files) i ≡ Some e → (statement : ℕ) → e.opening ≤ statement → statement ≤ e.ending
     → (rows : List Row) → rows ≡ rows_of files (scoping files) → said_by files i e.file statement (number_at rows e.file statement) ≡ said_at files e statement

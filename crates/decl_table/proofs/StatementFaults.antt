@@ -1,5 +1,5 @@
 -- Faults of IMPLICIT and of access, by tokens and as they are defined.
-use Rattle.std.proofs.Common.{◌≡◌, ℕ, Bool, true, false, not, ◌&&◌, ◌||◌, List, [], ◌∷◌, ◌++◌, Option, Some, None, map, refl, sym, ap, ◌∙◌, if◌then◌else◌}
+use Rattle.std.proofs.Common.{◌≡◌, ℕ, Bool, true, false, ◌&&◌, ◌||◌, List, [], ◌∷◌, ◌++◌, Some, map, refl, sym, ap, ◌∙◌, if◌then◌else◌}
 use Rattle.std.specs.List.{flat_map, filter, list_any}
 use Rattle.ftn_base.specs.ImplicitLetters as letters
 use Rattle.ftn_base.specs.declared.fault.FaultKind.TheVariants.{Conflicting}
@@ -12,7 +12,7 @@ use Rattle.ftn_tree.specs.GlobalNames.{place}
 use Rattle.ftn_tree.specs.ScopeLetters.{Given, is_implicit_at, is_none_at, beside_none, given_again}
 use Rattle.ftn_tree.specs.Scopes.{first_token_at, scope_kind, own_statements}
 use Rattle.decl_table.specs.declared.statements.Came.{Came}
-use Rattle.decl_table.specs.steps.Statements.{conflicts, givens_in, implicit_none, nothing, with_statement, is_beside, first_if, beside_by, access_at, access_by}
+use Rattle.decl_table.specs.steps.Statements.{conflicts, givens_in, nothing, with_statement, is_beside, first_if, beside_by, access_at, access_by}
 
 -- the fault of a statement at its first token
 abbrev at_first : List FileTree → ℕ → ℕ → Finding

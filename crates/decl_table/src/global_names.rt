@@ -85,10 +85,7 @@ fn unit_globals<'a>(
 fn is_common(files: &[FileTree], file: u32, statement: u32) -> bool
     ensures { result ≡ spec.is_common_at (layer_at files.now file statement) }
 {
-    matches!(
-        form_at(files, file, statement),
-        Some(Form::Common { .. })
-    )
+    matches!(form_at(files, file, statement), Some(Form::Common { .. }))
 }
 
 /// Adds a name that stands between slashes.

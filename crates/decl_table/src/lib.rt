@@ -7,6 +7,7 @@
 #![tactic(auto)]
 
 mod extents;
+mod faults;
 mod finding;
 mod firsts;
 mod forms;
@@ -25,6 +26,7 @@ mod scopes;
 mod scoping;
 mod statements;
 
+pub use faults::declaration_fault;
 pub use finding::{Finding, Place};
 pub use names::first_of_names;
 pub use saying::Saying;

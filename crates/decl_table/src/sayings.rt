@@ -124,7 +124,9 @@ fn push_said(
     ensures { OnOk result (found.new.items ≡ found.old.items ++ spec.said_at files.now unit statement) }
 {
     let stands = number_at(&scoping.rows, unit.file, statement);
-    push_by(alloc, files, scoping, number, unit.file, statement, stands, found)
+    push_by(
+        alloc, files, scoping, number, unit.file, statement, stands, found,
+    )
 }
 
 /// All that is said in a scoping unit, in the order of tokens.

@@ -75,9 +75,11 @@ fn push_given(
     ensures { OnOk result (found.new.items ≡ found.old.items ++ steps.givens_in files.now file statement) }
 {
     match form_at(files, file, statement) {
-        Some(Form::Implicit {
-            groups: Some(groups),
-        }) => push_groups(files, file, groups.as_slice(), found),
+        Some(
+            Form::Implicit {
+                groups: Some(groups),
+            },
+        ) => push_groups(files, file, groups.as_slice(), found),
         _ => Ok(()),
     }
 }

@@ -1,4 +1,4 @@
-use Rattle.std.proofs.Common.{◌++◌, sym, ap, ◌∙◌}
+use Rattle.std.proofs.Common.{◌++◌, ap, ◌∙◌}
 use Rattle.ftn_tree.specs.DeclarationFaults.{first_finding, declaration_rank, letter_faults, none_faults, access_faults}
 use Rattle.decl_table.specs.steps.Statements.{conflicts}
 use Rattle.decl_table.proofs.StatementFaults.{letters_told, none_told, access_told}
