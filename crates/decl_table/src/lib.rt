@@ -1,9 +1,10 @@
 //! Scoping units and declarations (Fortran 90, 5, 12.5.2, 14.1.1, 14.1.2).
 //!
-//! `scope_table` gives the scoping units of a project, each with its kind, path, host and letters. `first_of_names` gives exactly the
-//! first fault of the names of a scoping unit, or none where there is none. To be trusted are `Extents`, `Scopes`, `ScopeLetters`,
-//! `Sayings`, `Exclusions`, `DeclarationFaults`, and of `DeclaredEntities` the entry of a scoping unit, all of `ftn_tree`; `specs` of
-//! this crate serves proofs alone. It isn't said how long a call takes.
+//! `scope_table` gives the scoping units of a project as they are defined, each with its kind, path, host and letters.
+//! `declaration_fault` gives exactly the first fault of a project's declarations, or none where there is none. To be trusted are
+//! `Extents`, `Scopes`, `ScopeLetters`, `Sayings`, `Exclusions`, `GlobalNames`, `DeclarationFaults`, `Projects`, and of
+//! `DeclaredEntities` the entry of a scoping unit, all of `ftn_tree`; `specs/steps` serves proofs alone. It isn't said how long a call
+//! takes: about in line with statements and names, where scoping units nest as deep as they may.
 #![tactic(auto)]
 
 mod extents;
@@ -27,7 +28,4 @@ mod scoping;
 mod statements;
 
 pub use faults::declaration_fault;
-pub use finding::{Finding, Place};
-pub use names::first_of_names;
-pub use saying::Saying;
 pub use scopes::scope_table;
