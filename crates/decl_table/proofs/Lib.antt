@@ -21,3 +21,6 @@ pub mod Said
 pub mod StatementFaults
 pub mod GlobalPairs
 pub mod GlobalLists
+pub mod WordNames
+pub mod MentionNames
+pub mod OccurrenceLists

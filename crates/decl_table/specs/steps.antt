@@ -11,3 +11,4 @@ pub mod Said
 pub mod Statements
 pub mod Globals
 pub mod GlobalLists
+pub mod Occurrences
