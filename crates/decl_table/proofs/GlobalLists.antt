@@ -3,13 +3,14 @@ use Rattle.std.proofs.Common.{◌≡◌, ℕ, Bool, true, false, List, [], ◌�
 use Rattle.std.specs.Prelude.{◌+◌, slice_get}
 use Rattle.std.specs.List.{filter, flat_map}
 use Rattle.std.specs.Option.{option_and_then, option_map_or}
+use Rattle.std.proofs.lemmas.List.{map-append}
 use Rattle.ftn_tree.specs.declared.mention.Mention.{Mention}
 use Rattle.ftn_tree.specs.declared.mention.Role.TheVariants as role
 use Rattle.ftn_tree.specs.declared.table.Extent.{Extent}
 use Rattle.ftn_tree.specs.declared.unit.FileTree.{FileTree}
 use Rattle.ftn_tree.specs.DeclarationFaults.{Finding, first_finding, declaration_rank, global_findings}
 use Rattle.ftn_tree.specs.Extents.{scoping, host_of, layer_at}
-use Rattle.ftn_tree.specs.GlobalNames.{Place, Global, has_no_host, program_units, unit_global, unit_globals, is_common_at, block_names_at, block_names, unit_pairs}
+use Rattle.ftn_tree.specs.GlobalNames.{Global, has_no_host, program_units, unit_global, unit_globals, is_common_at, block_names_at, block_names, unit_pairs}
 use Rattle.ftn_tree.specs.Projects.{AreTrees}
 use Rattle.ftn_tree.specs.Roles.{says}
 use Rattle.ftn_tree.specs.Sayings.{mentions_at}
@@ -72,10 +73,6 @@ blocks_told files units is =
 
 -- ---- both
 
-pairs_both : (xs ys : List (Place × Place)) → map of_pair (xs ++ ys) ≡ map of_pair xs ++ map of_pair ys
-pairs_both [] ys = refl
-pairs_both (x ∷ xs) ys = ap (λ (more : List Finding). of_pair x ∷ more) (pairs_both xs ys)
-
 pub global_told : (files : List FileTree) (units one other : List Extent) (names known : List Global) (blocks listed : List Global) (first second next : Option Finding)
     → units ≡ program_units files → one ≡ units → other ≡ units → names ≡ map (unit_global files) one → blocks ≡ flat_map (unit_blocks files) other → known ≡ names → listed ≡ blocks
     → first ≡ first_of (unit_pairs [] known) → second ≡ first_of (block_pairs known listed)
@@ -87,4 +84,4 @@ global_told files units one other names known blocks listed first second next is
     joined (map of_pair (unit_pairs [] (unit_globals files))) (map of_pair (block_pairs (unit_globals files) (block_names files)))
     (told ∙ ap (λ globals. first_of (unit_pairs [] globals)) all)
     (more ∙ ap (λ globals. first_of (block_pairs globals listed)) all ∙ ap (λ names. first_of (block_pairs (unit_globals files) names)) lists)
-    ∙ ap (first_finding declaration_rank) (sym (pairs_both (unit_pairs [] (unit_globals files)) (block_pairs (unit_globals files) (block_names files))))
+    ∙ ap (first_finding declaration_rank) (sym (map-append of_pair (unit_pairs [] (unit_globals files)) (block_pairs (unit_globals files) (block_names files))))

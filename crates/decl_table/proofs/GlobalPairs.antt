@@ -4,6 +4,8 @@ use Rattle.std.specs.Prelude.{is_some}
 use Rattle.std.specs.List.{flat_map, list_any}
 use Rattle.std.specs.Map.{lookup}
 use Rattle.std.specs.Option.{option_map, option_map_or, option_or}
+use Rattle.std.proofs.lemmas.Grind.{flat_map-append}
+use Rattle.std.proofs.lemmas.List.{map-append}
 use Rattle.std.proofs.lemmas.Slice.Eq.{bytes_eq-Decides}
 use Rattle.indexmap.specs.IndexMap.{insert_entry}
 use Rattle.ftn_tree.specs.DeclarationFaults.{Finding, first_finding, declaration_rank}
@@ -68,10 +70,6 @@ twice_told : (at : Place) (found : Option Global) → twice at (option_map at_of
 twice_told at None = refl
 twice_told at (Some first) = refl
 
-map_both : (xs ys : List (Place × Place)) → map of_pair (xs ++ ys) ≡ map of_pair xs ++ map of_pair ys
-map_both [] ys = refl
-map_both (x ∷ xs) ys = ap (λ (more : List Finding). of_pair x ∷ more) (map_both xs ys)
-
 -- one more: `joined` is what is said of the earlier of two
 pub twice_more : (kept : Option (List ℕ) → Option At) (before : List Global) (g : Global) (found next second : Option Finding) → Keeps kept before
     → second ≡ twice g.at (kept g.name) → found ≡ first_of (unit_pairs [] before)
@@ -81,7 +79,7 @@ twice_more kept before g found next second keeps told is joined =
     joined (map of_pair (unit_pairs [] before)) (map of_pair (option_map_or (λ (first : Global). (g.at, first.at) ∷ []) (first_named g.name before) [])) is
     (told ∙ ap (twice g.at) (keeps g.name) ∙ twice_told g.at (first_named g.name before))
     ∙ ap (first_finding declaration_rank)
-    (sym (map_both (unit_pairs [] before) (option_map_or (λ (first : Global). (g.at, first.at) ∷ []) (first_named g.name before) [])) ∙ ap (map of_pair) (sym (pairs_more [] before g)))
+    (sym (map-append of_pair (unit_pairs [] before) (option_map_or (λ (first : Global). (g.at, first.at) ∷ []) (first_named g.name before) [])) ∙ ap (map of_pair) (sym (pairs_more [] before g)))
 
 same_is : (one other : Option (List ℕ)) → same_name one other ≡ true → one ≡ other
 same_is None None same = refl
@@ -151,10 +149,6 @@ is_named name (x ∷ xs) = by (same_name x.name name) (is_named name xs) where
   by true more = refl
   by false more = more
 
-flat_both : (f : Global → List (Place × Place)) (xs ys : List Global) → flat_map f (xs ++ ys) ≡ flat_map f xs ++ flat_map f ys
-flat_both f [] ys = refl
-flat_both f (x ∷ xs) ys = ap (λ (more : List (Place × Place)). f x ++ more) (flat_both f xs ys) ∙ sym (append_assoc (f x) (flat_map f xs) (flat_map f ys))
-
 block_told : (units : List Global) (g : Global) → twice_in_turn g.at (option_map at_of (first_named g.name units)) ≡ first_of (block_pair units g)
 block_told units g = by (first_named g.name units) where
   by : (found : Option Global) → twice_in_turn g.at (option_map at_of found) ≡ first_of (option_map_or (λ (unit : Global). in_turn unit.at g.at ∷ []) found [])
@@ -176,7 +170,7 @@ block_more unit block all before g found next pair keeps kept told is joined =
     (told ∙ ap (λ b. if b then None else twice_in_turn g.at (unit g.name)) (ap is_some (kept g.name) ∙ is_named g.name before)
     ∙ ap (λ there. if any_named g.name before then None else twice_in_turn g.at there) (keeps g.name)))
     ∙ ap (first_finding declaration_rank)
-    (sym (map_both (block_pairs all before) (flat_map (block_pair all) (if any_named g.name before then [] else g ∷ [])))
+    (sym (map-append of_pair (block_pairs all before) (flat_map (block_pair all) (if any_named g.name before then [] else g ∷ [])))
     ∙ ap (map of_pair)
-    (sym (flat_both (block_pair all) (firsts_after [] before) (if any_named g.name before then [] else g ∷ []))
+    (sym (flat_map-append (block_pair all) (firsts_after [] before) (if any_named g.name before then [] else g ∷ []))
     ∙ ap (flat_map (block_pair all)) (sym (firsts_more [] before g))))

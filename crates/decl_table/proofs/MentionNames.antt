@@ -23,11 +23,11 @@ use Rattle.ftn_tree.specs.Mentions.{mentions_of}
 use Rattle.ftn_tree.specs.Roles.{name_bytes, value_of}
 use Rattle.ftn_tree.specs.RowNames.{IsWordOf, has_letters, names_in}
 use Rattle.ftn_tree.specs.Sayings.{mentions_at}
-use Rattle.ftn_tree.specs.Scopes.{name_at}
 use Rattle.ftn_tree.proofs.RowLaws.{words_of}
 use Rattle.ftn_tree.proofs.StatementNames.{statement_names}
 use Rattle.std.proofs.lemmas.Option.{get_or_from_slice_get, slice_get_within}
-use Rattle.decl_table.proofs.Order.{Each}
+use Rattle.decl_table.specs.steps.Occurrences.{IsNameAt}
+use Rattle.decl_table.proofs.Order.{Each, each_of}
 use Rattle.decl_table.proofs.WordNames.{word_is_name}
 
 -- ---- only words are words
@@ -123,9 +123,6 @@ read_at tokens (range ∷ ranges) (s ∷ statements) (suc k) statement (first, r
 
 -- ---- the names of a statement
 
-abbrev pub IsNameAt : List FileTree → ℕ → Mention → Type 0
-IsNameAt files file m = IsTrue (is_folded_name (name_at files file m.token))
-
 token_value : (tokens : Tokens) (k : ℕ) (here : Token) → slice_get tokens.items k ≡ Some here → name_bytes tokens k ≡ here.value
 token_value tokens k here is = ap value_of is
 
@@ -141,10 +138,6 @@ in_tree tree (edition, text, short, (clean, is)) k statement there =
         subst (λ bytes. IsTrue (is_folded_name bytes)) (sym (ap (λ tokens. name_bytes tokens number) is.tokens_are ∙ token_value (tokens_of text) number w.here at))
         (word_is_name text number w.here at (kind_is w.here.kind w.here.value w.is_a_word))
 
-each_from : {A : Type 0} (P : A → Type 0) (xs : List A) → All P xs → Each P xs
-each_from P [] all = tt
-each_from P (x ∷ xs) all = (all 0 x (omega arith), each_from P xs (λ k d less. all (suc k) d (omega arith)))
-
 each_to : {A : Type 0} (P Q : A → Type 0) (xs : List A) → ((x : A) → P x → Q x) → Each P xs → Each Q xs
 each_to P Q [] gives all = tt
 each_to P Q (x ∷ xs) gives (first, all) = (gives x first, each_to P Q xs gives all)
@@ -153,9 +146,6 @@ each_token : (P : ℕ → Type 0) (mentions : List Mention) → Each P (map (λ 
 each_token P [] all = tt
 each_token P (m ∷ mentions) (first, all) = (first, each_token P mentions all)
 
-abbrev pub AreNamesAt : List FileTree → ℕ → List Mention → Type 0
-AreNamesAt files file mentions = Each (IsNameAt files file) mentions
-
 pub mentions_named : (files : List FileTree) → AreTrees files → (file statement : ℕ) → Each (IsNameAt files file) (mentions_at files file statement)
 mentions_named files are file statement = by (slice_get files file) refl where
   at_statement : (tree : FileTree) → IsSomeTree tree → (found : Option Statement) → slice_get tree.statements statement ≡ found
@@ -163,7 +153,7 @@ mentions_named files are file statement = by (slice_get files file) refl where
   at_statement tree some None is = tt
   at_statement tree some (Some s) is =
       each_token (λ number. IsTrue (is_folded_name (name_bytes tree.tokens number))) (mentions_of s.form)
-      (each_from (λ number. IsTrue (is_folded_name (name_bytes tree.tokens number))) (names_in s.form) (in_tree tree some statement s is))
+      (each_of (λ number. IsTrue (is_folded_name (name_bytes tree.tokens number))) (names_in s.form) (in_tree tree some statement s is))
 
   by : (found : Option FileTree) → slice_get files file ≡ found → Each (IsNameAt files file) (mentions_at files file statement)
   by None is = subst (λ found. Each (IsNameAt files file) (option_map_or mentions_of (option_and_then (form_in statement) found) [])) (sym is) tt

@@ -1,6 +1,7 @@
 -- Faults of IMPLICIT and of access, by tokens and as they are defined.
 use Rattle.std.proofs.Common.{◌≡◌, ℕ, Bool, true, false, ◌&&◌, ◌||◌, List, [], ◌∷◌, ◌++◌, Some, map, refl, sym, ap, ◌∙◌, if◌then◌else◌}
 use Rattle.std.specs.List.{flat_map, filter, list_any}
+use Rattle.std.proofs.lemmas.List.{map-append}
 use Rattle.ftn_base.specs.ImplicitLetters as letters
 use Rattle.ftn_base.specs.declared.fault.FaultKind.TheVariants.{Conflicting}
 use Rattle.ftn_tree.specs.declared.table.Extent.{Extent}
@@ -42,14 +43,6 @@ first_told : (files : List FileTree) (file statement : ℕ) (holds : Bool) → c
 first_told files file statement true = refl
 first_told files file statement false = refl
 
-conflicts_both : (file : ℕ) (xs ys : List ℕ) → conflicts file (xs ++ ys) ≡ conflicts file xs ++ conflicts file ys
-conflicts_both file [] ys = refl
-conflicts_both file (x ∷ xs) ys = ap (λ (more : List Finding). found Conflicting (place file x) ∷ more) (conflicts_both file xs ys)
-
-map_both : (f : ℕ → Finding) (xs ys : List ℕ) → map f (xs ++ ys) ≡ map f xs ++ map f ys
-map_both f [] ys = refl
-map_both f (x ∷ xs) ys = ap (λ (more : List Finding). f x ∷ more) (map_both f xs ys)
-
 beside_is : (files : List FileTree) (file : ℕ) (own before : List ℕ) (came : Came) → came.any ≡ some before → came.none ≡ list_any (λ earlier. is_none_at (layer_at files file earlier)) before
     → conflicts file (beside_by files file came own) ≡ map (at_first files file) (beside_none files file before (filter (λ statement. is_implicit_at (layer_at files file statement)) own))
 beside_is files file [] before came any none = refl
@@ -75,12 +68,12 @@ beside_is files file (statement ∷ rest) before came any none =
         ≡ map (at_first files file) (beside_none files file before (filter (λ statement. is_implicit_at (layer_at files file statement)) (statement ∷ rest)))
     by more true is =
         rw is
-        (conflicts_both file (first_if files file statement (is_beside came (Some here))) (beside_by files file (with_statement came (Some here)) rest)
+        (map-append (λ token. found Conflicting (place file token)) (first_if files file statement (is_beside came (Some here))) (beside_by files file (with_statement came (Some here)) rest)
         ∙ ap (λ front. front ++ conflicts file (beside_by files file (with_statement came (Some here)) rest))
         (first_told files file statement (is_beside came (Some here)) ∙ ap (λ b. map (at_first files file) (if b then statement ∷ [] else [])) holds)
         ∙ ap (λ back. map (at_first files file) (if list_any (λ earlier. is_none_at (layer_at files file earlier) || is_none_at (layer_at files file statement)) before then statement ∷ [] else []) ++ back)
         (more (statement ∷ before) (with_statement came (Some here)) refl (swapped came.none here ∙ ap (λ b. here || b) none))
-        ∙ sym (map_both (at_first files file)
+        ∙ sym (map-append (at_first files file)
         (if list_any (λ earlier. is_none_at (layer_at files file earlier) || is_none_at (layer_at files file statement)) before then statement ∷ [] else [])
         (beside_none files file (statement ∷ before) later)))
     by more false is = rw is (more before came any none)
