@@ -1,6 +1,6 @@
 -- Maps of letters that are written row by row.
-use Rattle.std.proofs.Common.{◌≡◌, ◌≤◌, ◌<◌, ◌-◌, ◌+◌, ℕ, zero, suc, true, false, List, [], ◌∷◌, ◌++◌, map, length, get_or, set, take, refl, sym, ap, ◌∙◌, inl, inr, arith, if◌then◌else◌}
-use Rattle.std.specs.List.{range_with_len}
+use Rattle.std.proofs.Common.{◌≡◌, ◌≤◌, ◌<◌, ◌-◌, ◌+◌, ℕ, zero, suc, Bool, true, false, Option, List, [], ◌∷◌, ◌++◌, map, length, get_or, set, take, refl, sym, ap, ◌∙◌, inl, inr, arith, if◌then◌else◌}
+use Rattle.std.specs.List.{find, range_with_len}
 use Rattle.std.proofs.lemmas.Bool.{cases_eq}
 use Rattle.std.proofs.lemmas.Bool.Decides.{nat_tests}
 use Rattle.std.proofs.lemmas.List.{ext_get_or, get_or-set_same, get_or-set_other, take_all, take_more_set}
@@ -89,3 +89,26 @@ unfolding alphabet
 inner_done old entries n many few long made =
     let all : n ≡ 26 = omega arith in
     sym (take_all n entries (omega arith)) ∙ made ∙ ap (λ k. map (λ letter. (type_of letter old, false)) (range_with_len 97 k)) all
+
+-- one more row of a map that is made row by row
+pub made_more : (f : ℕ → Entry) (entries : List Entry) (n : ℕ) (entry : Entry) → n < length entries → entry ≡ f (97 + n) →
+    take n entries ≡ map f (range_with_len 97 n) → take (n + 1) (set entries n entry) ≡ map f (range_with_len 97 (n + 1))
+made_more f entries n entry few is made =
+    take_more_set entries n entry few
+    ∙ ap (λ rows. rows ++ entry ∷ []) made
+    ∙ ap (λ entry. map f (range_with_len 97 n) ++ entry ∷ []) is
+    ∙ sym (map-range_with_len_more f 97 n (97 + n) refl)
+
+pub made_done : (f : ℕ → Entry) (entries : List Entry) (n : ℕ) → 26 ≤ n → n ≤ 26 → length entries ≡ 26 →
+    take n entries ≡ map f (range_with_len 97 n) → entries ≡ map f alphabet
+unfolding alphabet
+made_done f entries n many few long made =
+    let all : n ≡ 26 = omega arith in
+    sym (take_all n entries (omega arith)) ∙ made ∙ ap (λ k. map f (range_with_len 97 k)) all
+
+-- a search through numbers, one after the other
+pub found_next : (test : ℕ → Bool) (found : Option ℕ) (at end : ℕ) → at < end → test at ≡ false → found ≡ find test (range_with_len at (end - at))
+    → found ≡ find test (range_with_len (at + 1) (end - (at + 1)))
+found_next test found at end less fails is = is ∙ ap (λ n. find test (range_with_len at n)) left ∙ rw fails refl where
+  left : end - at ≡ suc (end - (at + 1))
+  left = omega arith

@@ -1,0 +1,33 @@
+//! Scoping units and declarations (Fortran 90, 5, 12.5.2, 14.1.1, 14.1.2).
+//!
+//! `scope_table` gives the scoping units of a project as they are defined, each with its kind, path, host and letters.
+//! `occurrence_table` gives where names occur. `declaration_fault` gives exactly the first fault of a project's declarations, or none
+//! where there is none. To be trusted are `Extents`, `Scopes`, `ScopeLetters`, `Sayings`, `Exclusions`, `GlobalNames`,
+//! `DeclarationFaults`, `Projects`, and of `DeclaredEntities` the entry of a scoping unit and the occurrences, all of `ftn_tree`;
+//! `specs/steps` serves proofs alone. It isn't said how long a call takes: it grows about in line with statements and names.
+#![tactic(auto)]
+
+mod extents;
+mod faults;
+mod finding;
+mod firsts;
+mod forms;
+mod global_names;
+mod globals;
+mod known_names;
+mod letters;
+mod names;
+mod occurrences;
+mod own;
+mod rows;
+mod rules;
+mod saying;
+mod sayings;
+mod scope_faults;
+mod scopes;
+mod scoping;
+mod statements;
+
+pub use faults::declaration_fault;
+pub use occurrences::occurrence_table;
+pub use scopes::scope_table;
