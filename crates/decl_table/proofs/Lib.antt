@@ -21,6 +21,8 @@ pub mod Said
 pub mod StatementFaults
 pub mod GlobalPairs
 pub mod GlobalLists
+pub mod Runs
+pub mod SpelledNames
 pub mod WordNames
 pub mod MentionNames
 pub mod OccurrenceLists

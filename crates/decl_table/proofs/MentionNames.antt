@@ -1,9 +1,8 @@
 -- The names in the statements of a project are names in lower case.
-use Rattle.std.proofs.Common.{◌≡◌, ℕ, zero, suc, ◌+◌, ◌-◌, ◌≤◌, Bool, true, false, ◌&&◌, List, [], ◌∷◌, take, drop, codes, map, Option, Some, None, IsTrue, refl, sym, ap, ◌∙◌, subst, arith, if◌then◌else◌}
+use Rattle.std.proofs.Common.{◌≡◌, ℕ, zero, suc, ◌+◌, ◌-◌, ◌≤◌, Bool, true, false, ◌&&◌, List, [], ◌∷◌, take, drop, codes, map, Option, Some, None, refl, sym, ap, ◌∙◌, subst, arith, if◌then◌else◌}
 use Rattle.std.specs.Prelude.{◌==◌, slice_get}
 use Rattle.std.specs.List.{All}
 use Rattle.std.specs.Option.{option_map, option_map_or, option_and_then}
-use Rattle.ftn_base.specs.Names.{is_folded_name}
 use Rattle.ftn_base.specs.declared.place.Range.{Range}
 use Rattle.ftn_tree.specs.declared.lexeme.Lexeme.{Lexeme}
 use Rattle.ftn_tree.specs.declared.lexeme.Lexeme.TheVariants as lexeme
@@ -27,6 +26,7 @@ use Rattle.ftn_tree.proofs.RowLaws.{words_of}
 use Rattle.ftn_tree.proofs.StatementNames.{statement_names}
 use Rattle.std.proofs.lemmas.Option.{get_or_from_slice_get, slice_get_within}
 use Rattle.decl_table.specs.steps.Occurrences.{IsNameAt}
+use Rattle.decl_table.specs.steps.Spelled.{IsSpelled}
 use Rattle.decl_table.proofs.Order.{Each, each_of}
 use Rattle.decl_table.proofs.WordNames.{word_is_name}
 
@@ -127,16 +127,16 @@ token_value : (tokens : Tokens) (k : ℕ) (here : Token) → slice_get tokens.it
 token_value tokens k here is = ap value_of is
 
 in_tree : (tree : FileTree) → IsSomeTree tree → (k : ℕ) (statement : Statement) → slice_get tree.statements k ≡ Some statement
-    → All (λ number. IsTrue (is_folded_name (name_bytes tree.tokens number))) (names_in statement.form)
+    → All (λ number. IsSpelled (name_bytes tree.tokens number)) (names_in statement.form)
 in_tree tree (edition, text, short, (clean, is)) k statement there =
     let (range, read) = read_at (tokens_of text) (tokens_of text).statements tree.statements k statement is.read there in
     λ i d less. by range (words_of (has_letters statement.form) (row_in (tokens_of text) range) range.start (names_in statement.form) (statement_names statement.form range.start (row_in (tokens_of text) range) read.says) i d less)
   where
-    by : {number : ℕ} (range : Range) → IsWordOf range.start (row_in (tokens_of text) range) number → IsTrue (is_folded_name (name_bytes tree.tokens number))
+    by : {number : ℕ} (range : Range) → IsWordOf range.start (row_in (tokens_of text) range) number → IsSpelled (name_bytes tree.tokens number)
     by {number} range w =
         let at : slice_get (tokens_of text).items number ≡ Some w.here = row_at (tokens_of text).items range.start range.end number w.here w.from w.there in
-        subst (λ bytes. IsTrue (is_folded_name bytes)) (sym (ap (λ tokens. name_bytes tokens number) is.tokens_are ∙ token_value (tokens_of text) number w.here at))
-        (word_is_name text number w.here at (kind_is w.here.kind w.here.value w.is_a_word))
+        subst (λ bytes. IsSpelled bytes) (sym (ap (λ tokens. name_bytes tokens number) is.tokens_are ∙ token_value (tokens_of text) number w.here at))
+        (word_is_name edition text clean number w.here at (kind_is w.here.kind w.here.value w.is_a_word))
 
 each_to : {A : Type 0} (P Q : A → Type 0) (xs : List A) → ((x : A) → P x → Q x) → Each P xs → Each Q xs
 each_to P Q [] gives all = tt
@@ -149,18 +149,18 @@ each_token P (m ∷ mentions) (first, all) = (first, each_token P mentions all)
 pub mentions_named : (files : List FileTree) → AreTrees files → (file statement : ℕ) → Each (IsNameAt files file) (mentions_at files file statement)
 mentions_named files are file statement = by (slice_get files file) refl where
   at_statement : (tree : FileTree) → IsSomeTree tree → (found : Option Statement) → slice_get tree.statements statement ≡ found
-      → Each (λ (m : Mention). IsTrue (is_folded_name (name_bytes tree.tokens m.token))) (option_map_or mentions_of (option_map (λ (s : Statement). s.form) found) [])
+      → Each (λ (m : Mention). IsSpelled (name_bytes tree.tokens m.token)) (option_map_or mentions_of (option_map (λ (s : Statement). s.form) found) [])
   at_statement tree some None is = tt
   at_statement tree some (Some s) is =
-      each_token (λ number. IsTrue (is_folded_name (name_bytes tree.tokens number))) (mentions_of s.form)
-      (each_of (λ number. IsTrue (is_folded_name (name_bytes tree.tokens number))) (names_in s.form) (in_tree tree some statement s is))
+      each_token (λ number. IsSpelled (name_bytes tree.tokens number)) (mentions_of s.form)
+      (each_of (λ number. IsSpelled (name_bytes tree.tokens number)) (names_in s.form) (in_tree tree some statement s is))
 
   by : (found : Option FileTree) → slice_get files file ≡ found → Each (IsNameAt files file) (mentions_at files file statement)
   by None is = subst (λ found. Each (IsNameAt files file) (option_map_or mentions_of (option_and_then (form_in statement) found) [])) (sym is) tt
   by (Some tree) is =
       let some : IsSomeTree tree = subst IsSomeTree (get_or_from_slice_get files file tree tree is) (are.trees file tree (slice_get_within files file tree is)) in
       subst (λ found. Each (IsNameAt files file) (option_map_or mentions_of (option_and_then (form_in statement) found) [])) (sym is)
-      (each_to (λ (m : Mention). IsTrue (is_folded_name (name_bytes tree.tokens m.token))) (IsNameAt files file)
+      (each_to (λ (m : Mention). IsSpelled (name_bytes tree.tokens m.token)) (IsNameAt files file)
       (option_map_or mentions_of (option_map (λ (s : Statement). s.form) (slice_get tree.statements statement)) [])
-      (λ m named. subst (λ found. IsTrue (is_folded_name (option_map_or (λ (tree : FileTree). name_bytes tree.tokens m.token) found []))) (sym is) named)
+      (λ m named. subst (λ found. IsSpelled (option_map_or (λ (tree : FileTree). name_bytes tree.tokens m.token) found [])) (sym is) named)
       (at_statement tree some (slice_get tree.statements statement) refl))

@@ -1,25 +1,33 @@
--- The word tokens of a text are names in lower case.
-use Rattle.std.proofs.Common.{◌≡◌, ℕ, zero, suc, ◌+◌, Bool, true, false, ◌&&◌, List, [], ◌∷◌, length, take, drop, map, Option, Some, None, IsTrue, refl, ap, ◌∙◌, subst, arith, if◌then◌else◌}
+-- The word tokens of a text without breaches are names in lower case.
+use Rattle.std.proofs.Common.{◌≡◌, ℕ, zero, suc, ◌+◌, ◌≤◌, Bool, true, false, ◌&&◌, List, [], ◌∷◌, ◌++◌, length, take, drop, map, Option, Some, None, refl, ap, ◌∙◌, subst, arith, if◌then◌else◌}
 use Rattle.std.specs.Prelude.{nat_lt, nat_le, ◌==◌, slice_get}
 use Rattle.std.specs.List.{flat_map, prefix_len, list_all, slice_split}
 use Rattle.std.specs.Option.{option_map_or}
 use Rattle.std.proofs.lemmas.Bool.Decides.{nat_tests}
 use Rattle.std.proofs.lemmas.Bool.{and_from, and_parts}
 use Rattle.ftn_base.specs.Letters.{folded, is_blank, is_letter, is_digit, is_name_byte}
-use Rattle.ftn_base.specs.Names.{is_folded_name, is_name_text}
-use Rattle.ftn_base.proofs.NameLemmas.{folded_is_name}
+use Rattle.std.specs.Str.{bytes_eq}
+use Rattle.std.proofs.lemmas.Slice.Eq.{bytes_eq-Decides}
+use Rattle.ftn_base.specs.Limits.{name_limit}
+use Rattle.ftn_base.specs.Names.{is_name, is_name_text}
+use Rattle.ftn_base.specs.declared.fault.FaultKind.TheVariants as kinds
+use Rattle.ftn_base.specs.declared.name.Edition.{Edition}
+use Rattle.ftn_base.specs.declared.name.Edition.TheVariants as edition
+use Rattle.ftn_base.proofs.NameLemmas.{folded_name, folded_twice}
 use Rattle.ftn_tree.specs.declared.piece.PieceKind.{PieceKind}
 use Rattle.ftn_tree.specs.declared.piece.PieceKind.TheVariants as pieces
 use Rattle.ftn_tree.specs.declared.piece.Spot.{Spot}
 use Rattle.ftn_tree.specs.declared.token.Token.{Token}
-use Rattle.ftn_tree.specs.declared.token.TokenKind.{TokenKind}
 use Rattle.ftn_tree.specs.declared.token.TokenKind.TheVariants as tokens
+use Rattle.ftn_tree.specs.Breaks.{Breach, breaches_from, breaches_of, long_line, only_if, piece_breaches}
 use Rattle.ftn_tree.specs.Code.{is_quote}
-use Rattle.ftn_tree.specs.Lines.{begins_with}
+use Rattle.ftn_tree.specs.Lines.{begins_with, code_lines, lines_of}
 use Rattle.ftn_tree.specs.Logical.{Glyph, is_cut, row_of}
 use Rattle.ftn_tree.specs.Pieces.{Piece, is_mark, is_pair, one_mark, mark_at, dotted_len, point_at, number_at, constant_len, constant_at, front, pieces_within}
-use Rattle.ftn_tree.specs.Reading.{token_of, each_piece, over_cells, runs_of, statement_tokens, tokens_of, value_of}
+use Rattle.ftn_tree.specs.Reading.{Cell, cell_of, is_gap, token_of, each_piece, over_cells, runs_of, statement_tokens, tokens_of}
+use Rattle.decl_table.specs.steps.Spelled.{IsSpelled}
 use Rattle.decl_table.proofs.Order.{Each, each_both}
+use Rattle.decl_table.proofs.Runs.{IsClean, append_none, statements_clean}
 
 -- ---- pieces
 
@@ -123,57 +131,78 @@ front_named b rest =
 -- ---- tokens
 
 abbrev pub IsNamed : Token → Type 0
-IsNamed here = here.kind ≡ tokens.Word → IsTrue (is_folded_name here.value)
+IsNamed here = here.kind ≡ tokens.Word → IsSpelled here.value
 
-text_folds : (bytes : List ℕ) → is_name_text bytes ≡ true → IsTrue (is_folded_name (folded bytes))
-text_folds [] named = absurd (cc named)
-text_folds (b ∷ rest) named =
+none_only : (test : Bool) (breach : Breach) → only_if test breach ≡ [] → test ≡ false
+none_only true breach none = absurd (cc none)
+none_only false breach none = refl
+
+within_limit : (edition : Edition) (bytes : List ℕ) → nat_lt (name_limit edition) (length bytes) ≡ false → length bytes ≤ 63
+within_limit edition.F90 bytes short = grind (arith, nat_tests)
+within_limit edition.F2003 bytes short = grind (arith, nat_tests)
+
+text_spelled : (bytes : List ℕ) → is_name_text bytes ≡ true → length bytes ≤ 63 → IsSpelled (folded bytes)
+text_spelled [] named short = absurd (cc named)
+text_spelled (b ∷ rest) named short =
     let (letter, more) = and_parts (is_letter b) (list_all is_name_byte rest) named in
-    let short : nat_lt (length rest) (length (b ∷ rest)) ≡ true = grind (arith, nat_tests) in
-    folded_is_name (length (b ∷ rest)) (b ∷ rest)
-    (and_from (is_letter b && nat_lt (length rest) (length (b ∷ rest))) (list_all is_name_byte rest)
-    (and_from (is_letter b) (nat_lt (length rest) (length (b ∷ rest))) letter short) more)
+    let less : nat_lt (length rest) 63 ≡ true = grind (arith, nat_tests, short) in
+    and_from (is_name 63 (folded (b ∷ rest))) (bytes_eq (folded (folded (b ∷ rest))) (folded (b ∷ rest)))
+    (folded_name 63 (b ∷ rest)
+    (and_from (is_letter b && nat_lt (length rest) 63) (list_all is_name_byte rest) (and_from (is_letter b) (nat_lt (length rest) 63) letter less) more))
+    ((bytes_eq-Decides (folded (folded (b ∷ rest))) (folded (b ∷ rest))).1 (folded_twice (b ∷ rest)))
 
-value_named : (kind : TokenKind) (bytes : List ℕ) → (pieces.Token kind ≡ pieces.Token tokens.Word → is_name_text bytes ≡ true) → kind ≡ tokens.Word → IsTrue (is_folded_name (value_of kind bytes))
-value_named tokens.Word bytes named same = text_folds bytes (named refl)
-value_named tokens.Dotted bytes named same = absurd (cc same)
-value_named tokens.Quoted bytes named same = absurd (cc same)
-value_named tokens.Whole bytes named same = absurd (cc same)
-value_named tokens.RealForm bytes named same = absurd (cc same)
-value_named tokens.Mark bytes named same = absurd (cc same)
+token_named : (edition : Edition) (kind : PieceKind) (bytes : List ℕ) (spots : List Spot) → (kind ≡ pieces.Token tokens.Word → is_name_text bytes ≡ true)
+    → piece_breaches edition kind bytes spots ≡ [] → Each IsNamed (token_of kind bytes spots)
+token_named edition kind bytes [] named clean = tt
+token_named edition pieces.Blank bytes (first ∷ spots) named clean = tt
+token_named edition pieces.Stray bytes (first ∷ spots) named clean = tt
+token_named edition pieces.Unclosed bytes (first ∷ spots) named clean = tt
+token_named edition (pieces.Token tokens.Word) bytes (first ∷ spots) named clean =
+    let short : nat_lt (name_limit edition) (length bytes) ≡ false = none_only (nat_lt (name_limit edition) (length bytes)) (first.at, kinds.LongName) clean in
+    (λ same. text_spelled bytes (named refl) (within_limit edition bytes short), tt)
+token_named edition (pieces.Token tokens.Dotted) bytes (first ∷ spots) named clean = (λ same. absurd (cc same), tt)
+token_named edition (pieces.Token tokens.Quoted) bytes (first ∷ spots) named clean = (λ same. absurd (cc same), tt)
+token_named edition (pieces.Token tokens.Whole) bytes (first ∷ spots) named clean = (λ same. absurd (cc same), tt)
+token_named edition (pieces.Token tokens.RealForm) bytes (first ∷ spots) named clean = (λ same. absurd (cc same), tt)
+token_named edition (pieces.Token tokens.Mark) bytes (first ∷ spots) named clean = (λ same. absurd (cc same), tt)
 
-token_named : (kind : PieceKind) (bytes : List ℕ) (spots : List Spot) → (kind ≡ pieces.Token tokens.Word → is_name_text bytes ≡ true) → Each IsNamed (token_of kind bytes spots)
-token_named kind bytes [] named = tt
-token_named pieces.Blank bytes (first ∷ spots) named = tt
-token_named pieces.Stray bytes (first ∷ spots) named = tt
-token_named pieces.Unclosed bytes (first ∷ spots) named = tt
-token_named (pieces.Token kind) bytes (first ∷ spots) named = (value_named kind bytes named, tt)
-
-pieces_named : (n : ℕ) (bytes : List ℕ) (spots : List Spot) → Each IsNamed (each_piece token_of bytes spots (pieces_within n bytes))
-pieces_named n [] spots = tt
-pieces_named zero (b ∷ rest) spots = tt
-pieces_named (suc n) (b ∷ rest) spots =
+pieces_named : (edition : Edition) (n : ℕ) (bytes : List ℕ) (spots : List Spot) → each_piece (piece_breaches edition) bytes spots (pieces_within n bytes) ≡ []
+    → Each IsNamed (each_piece token_of bytes spots (pieces_within n bytes))
+pieces_named edition n [] spots clean = tt
+pieces_named edition zero (b ∷ rest) spots clean = tt
+pieces_named edition (suc n) (b ∷ rest) spots clean =
+    let (one, two) =
+    append_none (piece_breaches edition (front b rest).0 (take (front b rest).1 (b ∷ rest)) (take (front b rest).1 spots))
+    (each_piece (piece_breaches edition) (drop (front b rest).1 (b ∷ rest)) (drop (front b rest).1 spots) (pieces_within n (drop (front b rest).1 (b ∷ rest)))) clean in
     each_both IsNamed (token_of (front b rest).0 (take (front b rest).1 (b ∷ rest)) (take (front b rest).1 spots))
     (each_piece token_of (drop (front b rest).1 (b ∷ rest)) (drop (front b rest).1 spots) (pieces_within n (drop (front b rest).1 (b ∷ rest))))
-    (token_named (front b rest).0 (take (front b rest).1 (b ∷ rest)) (take (front b rest).1 spots) (front_named b rest))
-    (pieces_named n (drop (front b rest).1 (b ∷ rest)) (drop (front b rest).1 spots))
+    (token_named edition (front b rest).0 (take (front b rest).1 (b ∷ rest)) (take (front b rest).1 spots) (front_named b rest) one)
+    (pieces_named edition n (drop (front b rest).1 (b ∷ rest)) (drop (front b rest).1 spots) two)
 
-each_flat : {A B : Type 0} (P : B → Type 0) (f : A → List B) (xs : List A) → ((x : A) → Each P (f x)) → Each P (flat_map f xs)
-each_flat P f [] all = tt
-each_flat P f (x ∷ xs) all = each_both P (f x) (flat_map f xs) (all x) (each_flat P f xs all)
+runs_named : (edition : Edition) (runs : List (List Glyph)) → Each (IsClean edition) runs → Each IsNamed (flat_map (over_cells token_of) (map (flat_map cell_of) runs))
+runs_named edition [] clean = tt
+runs_named edition (run ∷ runs) (first, clean) =
+    let cells : List Cell = flat_map cell_of run in
+    each_both IsNamed (over_cells token_of cells) (flat_map (over_cells token_of) (map (flat_map cell_of) runs))
+    (pieces_named edition (length (map (λ cell. cell.0) cells)) (map (λ cell. cell.0) cells) (map (λ cell. cell.1) cells) first) (runs_named edition runs clean)
 
-rows_named : (rows : List (List Glyph)) → Each IsNamed (flat_map (λ row. row) (map statement_tokens rows))
-rows_named [] = tt
-rows_named (row ∷ rows) =
-    each_both IsNamed (statement_tokens row) (flat_map (λ row. row) (map statement_tokens rows))
-    (each_flat IsNamed (over_cells token_of) (runs_of row) (λ cells. pieces_named (length (map (λ cell. cell.0) cells)) (map (λ cell. cell.0) cells) (map (λ cell. cell.1) cells)))
-    (rows_named rows)
+rows_named : (edition : Edition) (rows : List (List Glyph)) → Each (λ row. Each (IsClean edition) (slice_split is_gap row)) rows
+    → Each IsNamed (flat_map (λ row. row) (map statement_tokens rows))
+rows_named edition [] clean = tt
+rows_named edition (row ∷ rows) (first, clean) =
+    each_both IsNamed (statement_tokens row) (flat_map (λ row. row) (map statement_tokens rows)) (runs_named edition (slice_split is_gap row) first)
+    (rows_named edition rows clean)
 
 each_at : {A : Type 0} (P : A → Type 0) (xs : List A) (k : ℕ) (x : A) → Each P xs → slice_get xs k ≡ Some x → P x
 each_at P [] k x all is = absurd (cc is)
 each_at P (y ∷ xs) zero x (first, all) is = subst P (cc is) first
 each_at P (y ∷ xs) (suc k) x (first, all) is = each_at P xs k x all is
 
--- a word of a text is a name in lower case
-pub word_is_name : (text : List ℕ) (k : ℕ) (here : Token) → slice_get (tokens_of text).items k ≡ Some here → here.kind ≡ tokens.Word → IsTrue (is_folded_name here.value)
-word_is_name text k here is = each_at IsNamed (tokens_of text).items k here (rows_named (slice_split is_cut (row_of text))) is
+-- a word of a text without breaches is a name of at most 63 bytes in lower case
+pub word_is_name : (edition : Edition) (text : List ℕ) → breaches_of edition text ≡ [] → (k : ℕ) (here : Token) → slice_get (tokens_of text).items k ≡ Some here
+    → here.kind ≡ tokens.Word → IsSpelled here.value
+word_is_name edition text none k here is =
+    each_at IsNamed (tokens_of text).items k here
+    (rows_named edition (slice_split is_cut (row_of text)) (statements_clean edition (row_of text)
+    (append_none (flat_map long_line (lines_of text) ++ breaches_from edition None (code_lines text)) (flat_map (over_cells (piece_breaches edition)) (runs_of (row_of text))) none).1))
+    is

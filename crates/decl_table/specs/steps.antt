@@ -8,6 +8,7 @@ pub mod Rows
 pub mod Located
 pub mod Following
 pub mod Said
+pub mod Spelled
 pub mod Statements
 pub mod Globals
 pub mod GlobalLists

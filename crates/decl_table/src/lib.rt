@@ -26,6 +26,7 @@ mod sayings;
 mod scope_faults;
 mod scopes;
 mod scoping;
+mod spelled;
 mod statements;
 
 pub use faults::declaration_fault;

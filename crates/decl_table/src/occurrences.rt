@@ -2,7 +2,6 @@
 
 ghost use Rattle.std.specs.Prelude.{◌≡◌, ◌<◌, ◌++◌, map, IfOk, OnOk};
 ghost use Rattle.std.specs.List.{flat_map};
-ghost use Rattle.ftn_base.specs.Names.{is_folded_name};
 ghost use Rattle.ftn_tree.specs.DeclaredEntities as spec;
 ghost use Rattle.ftn_tree.specs.Projects.{AreTrees};
 ghost use Rattle.ftn_tree.specs.Sayings.{mentions_at};
@@ -13,7 +12,8 @@ use crate::forms::{name_at, span_of};
 use crate::rows::number_at;
 use crate::sayings::push_statement;
 use crate::scoping::{Scoping, scoping_units};
-use ftn_base::{Name, NoMemory};
+use crate::spelled::name_of;
+use ftn_base::NoMemory;
 use ftn_tree::{FileTree, Mention, Occurrence};
 use sqlite_items::Items;
 use std::alloc::Global;
@@ -31,7 +31,7 @@ fn occurrence(
     Ok(Occurrence {
         span: span_of(files, file, mention.token),
         scope,
-        name: Name::from_folded(alloc, name_at(files, file, mention.token))?,
+        name: name_of(alloc, name_at(files, file, mention.token))?,
         role: mention.role,
     })
 }

@@ -1,18 +1,18 @@
 -- Where names occur, by the numbers of statements: what the code does.
-use Rattle.std.specs.Prelude.{ℕ, IsTrue, List, [], map, length, slice_get, Option}
+use Rattle.std.specs.Prelude.{ℕ, List, [], map, length, slice_get, Option}
 use Rattle.std.specs.List.{All}
 use Rattle.std.specs.Option.{option_map_or}
-use Rattle.ftn_base.specs.Names.{is_folded_name}
 use Rattle.ftn_tree.specs.declared.mention.Mention.{Mention}
 use Rattle.ftn_tree.specs.declared.table.Occurrence.{Occurrence}
 use Rattle.ftn_tree.specs.declared.unit.FileTree.{FileTree}
 use Rattle.ftn_tree.specs.DeclaredEntities.{occurrence, occurrences_in}
 use Rattle.ftn_tree.specs.Sayings.{mentions_at}
 use Rattle.ftn_tree.specs.Scopes.{name_at, span_of}
+use Rattle.decl_table.specs.steps.Spelled.{IsSpelled}
 
 -- the name at the token is one in lower case
 abbrev pub IsNameAt : List FileTree → ℕ → Mention → Type 0
-IsNameAt files file m = IsTrue (is_folded_name (name_at files file m.token))
+IsNameAt files file m = IsSpelled (name_at files file m.token)
 
 abbrev pub AreNamesAt : List FileTree → ℕ → List Mention → Type 0
 AreNamesAt files file mentions = All (IsNameAt files file) mentions
