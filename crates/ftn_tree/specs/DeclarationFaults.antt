@@ -6,11 +6,12 @@ use Rattle.ftn_base.specs.declared.fault.Fault.{Fault}
 use Rattle.ftn_base.specs.declared.fault.FaultKind.{FaultKind}
 use Rattle.ftn_base.specs.declared.fault.FaultKind.TheVariants.{Twice, Conflicting}
 use Rattle.ftn_tree.specs.declared.form.Form.TheOpen.{Form-F}
+use Rattle.ftn_tree.specs.declared.table.Extent.{Extent}
 use Rattle.ftn_tree.specs.declared.unit.FileTree.{FileTree}
 use Rattle.ftn_tree.specs.declared.table.ScopeKind.{ScopeKind}
 use Rattle.ftn_tree.specs.declared.table.ScopeKind.TheVariants as kinds
 use Rattle.ftn_tree.specs.Layers.{FormLayer}
-use Rattle.ftn_tree.specs.Extents.{Extent, scoping, layer_at}
+use Rattle.ftn_tree.specs.Extents.{scoping, layer_at}
 use Rattle.ftn_tree.specs.Scopes.{span_of, first_token_at, scope_kind, own_statements}
 use Rattle.ftn_tree.specs.ScopeLetters.{givens_of, given_again, implicits_of, beside_none}
 use Rattle.ftn_base.specs.ImplicitLetters as letters

@@ -17,9 +17,10 @@ use Rattle.ftn_tree.specs.declared.table.EntityKind.TheVariants as kinds
 use Rattle.ftn_tree.specs.declared.table.Occurrence.{Occurrence}
 use Rattle.ftn_tree.specs.declared.table.Scope.{Scope}
 use Rattle.ftn_tree.specs.declared.table.Tables.{Tables}
+use Rattle.ftn_tree.specs.declared.table.Extent.{Extent}
 use Rattle.ftn_tree.specs.declared.unit.FileTree.{FileTree}
 use Rattle.ftn_tree.specs.Layers.{FormLayer}
-use Rattle.ftn_tree.specs.Extents.{Extent, scoping, layer_at, scope_of, is_body}
+use Rattle.ftn_tree.specs.Extents.{scoping, layer_at, scope_of, is_body}
 use Rattle.ftn_tree.specs.Scopes.{name_at, name_token, span_of, first_token_at, own_statements, all_statements, path_of, scope_kind, scope_number, host_number}
 use Rattle.ftn_tree.specs.ScopeLetters.{letters_of}
 use Rattle.ftn_tree.specs.Roles.{says, same_role}

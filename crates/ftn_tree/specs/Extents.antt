@@ -5,16 +5,11 @@ use Rattle.std.specs.List.{flat_map, filter, last_or}
 use Rattle.std.specs.Option.{option_map, option_map_or, option_and_then}
 use Rattle.ftn_tree.specs.declared.form.Form.{Form, out-Form}
 use Rattle.ftn_tree.specs.declared.form.Form.TheOpen.{Form-F}
+use Rattle.ftn_tree.specs.declared.table.Extent.{Extent}
 use Rattle.ftn_tree.specs.declared.unit.Unit.{Unit as UnitTree, fold-Unit}
 use Rattle.ftn_tree.specs.declared.unit.Unit.TheOpen.{Unit-F}
 use Rattle.ftn_tree.specs.declared.unit.FileTree.{FileTree}
 use Rattle.ftn_tree.specs.Layers.{FormLayer}
-
--- from its opening to its ending, in that file
-pub record Extent : Type 0 where
-  pub file : ℕ
-  pub opening : ℕ
-  pub ending : ℕ
 
 abbrev pub extent_step : ℕ → Unit-F (List Extent) → List Extent
 extent_step file u = record { file = file; opening = u.opening; ending = u.ending } ∷ flat_map (λ inner. inner) u.inner

@@ -7,10 +7,11 @@ use Rattle.std.specs.Str.{bytes_eq}
 use Rattle.ftn_tree.specs.declared.form.Form.TheOpen.{Form-F}
 use Rattle.ftn_tree.specs.declared.mention.Mention.{Mention}
 use Rattle.ftn_tree.specs.declared.mention.Role.TheVariants as role
+use Rattle.ftn_tree.specs.declared.table.Extent.{Extent}
 use Rattle.ftn_tree.specs.declared.unit.FileTree.{FileTree}
 use Rattle.ftn_tree.specs.Layers.{FormLayer}
 use Rattle.ftn_tree.specs.Roles.{says}
-use Rattle.ftn_tree.specs.Extents.{Extent, scoping, layer_at, host_of}
+use Rattle.ftn_tree.specs.Extents.{scoping, layer_at, host_of}
 use Rattle.ftn_tree.specs.Scopes.{name_at, name_token, first_token_at, all_statements}
 use Rattle.ftn_tree.specs.Sayings.{mentions_at}
 

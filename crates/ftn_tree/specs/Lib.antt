@@ -39,3 +39,4 @@ pub mod Exclusions
 pub mod GlobalNames
 pub mod DeclarationFaults
 pub mod DeclaredEntities
+pub mod Projects

@@ -8,10 +8,11 @@ use Rattle.ftn_tree.specs.declared.form.Form.{Form}
 use Rattle.ftn_tree.specs.declared.mention.Mention.{Mention}
 use Rattle.ftn_tree.specs.declared.mention.Role.{Role}
 use Rattle.ftn_tree.specs.declared.mention.Role.TheVariants as role
+use Rattle.ftn_tree.specs.declared.table.Extent.{Extent}
 use Rattle.ftn_tree.specs.declared.unit.FileTree.{FileTree}
 use Rattle.ftn_tree.specs.Roles.{says, mention}
 use Rattle.ftn_tree.specs.Mentions.{mentions_of}
-use Rattle.ftn_tree.specs.Extents.{Extent, extents, scoping, form_at, scope_of, host_of, is_body, is_some_extent}
+use Rattle.ftn_tree.specs.Extents.{extents, scoping, form_at, scope_of, host_of, is_body, is_some_extent}
 use Rattle.ftn_tree.specs.Scopes.{name_at, name_token, all_statements}
 
 -- a name and what is said of it in that place

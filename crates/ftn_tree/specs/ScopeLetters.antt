@@ -24,9 +24,10 @@ use Rattle.ftn_tree.specs.declared.parts.LengthValue.{LengthValue}
 use Rattle.ftn_tree.specs.declared.parts.LengthValue.TheVariants as value
 use Rattle.ftn_tree.specs.declared.parts.LetterGroup.{LetterGroup}
 use Rattle.ftn_tree.specs.declared.parts.LetterRange.{LetterRange}
+use Rattle.ftn_tree.specs.declared.table.Extent.{Extent}
 use Rattle.ftn_tree.specs.declared.unit.FileTree.{FileTree}
 use Rattle.ftn_tree.specs.Layers.{ExprLayer, FormLayer}
-use Rattle.ftn_tree.specs.Extents.{Extent, layer_at, is_body}
+use Rattle.ftn_tree.specs.Extents.{layer_at, is_body}
 use Rattle.ftn_tree.specs.Scopes.{name_at, chain, own_statements}
 
 -- ---- the type that is written

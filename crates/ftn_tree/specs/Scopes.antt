@@ -6,13 +6,14 @@ use Rattle.ftn_base.specs.declared.place.Range.{Range}
 use Rattle.ftn_base.specs.declared.place.Span.{Span}
 use Rattle.ftn_tree.specs.declared.form.Form.TheOpen.{Form-F}
 use Rattle.ftn_tree.specs.declared.token.Tokens.{Tokens}
+use Rattle.ftn_tree.specs.declared.table.Extent.{Extent}
 use Rattle.ftn_tree.specs.declared.unit.FileTree.{FileTree}
 use Rattle.ftn_tree.specs.declared.unit.Statement.{Statement}
 use Rattle.ftn_tree.specs.declared.table.ScopeKind.{ScopeKind}
 use Rattle.ftn_tree.specs.declared.table.ScopeKind.TheVariants as kinds
 use Rattle.ftn_tree.specs.Layers.{FormLayer}
 use Rattle.ftn_tree.specs.Roles.{name_bytes}
-use Rattle.ftn_tree.specs.Extents.{Extent, scoping, layer_at, covers, scope_of, host_of, is_body, same_extent, is_some_extent}
+use Rattle.ftn_tree.specs.Extents.{scoping, layer_at, covers, scope_of, host_of, is_body, same_extent, is_some_extent}
 
 -- ---- tokens
 

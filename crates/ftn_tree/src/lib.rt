@@ -33,7 +33,9 @@ pub use parts::{
     Sign, TypeSpec,
 };
 pub use piece::{PieceKind, Spot};
-pub use table::{Bound, Entity, EntityKind, Occurrence, Scope, ScopeKind, StatementId, Tables};
+pub use table::{
+    Bound, Entity, EntityKind, Extent, Occurrence, Scope, ScopeKind, StatementId, TableFault, Tables,
+};
 pub use token::{Token, TokenKind, Tokens};
 pub use unit::{Arm, Block, FileTree, Statement, Unit};
 pub use value::{Kind, Value, Values};

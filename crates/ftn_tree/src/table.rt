@@ -2,10 +2,56 @@
 
 ghost use Rattle.std.specs.Prelude.{◌≡◌};
 ghost use Rattle.ftn_tree.specs.Kinds as spec;
+ghost use Rattle.ftn_tree.specs.declared.table.TableFault.TheVariants as table_fault;
 
 use crate::mention::Role;
-use ftn_base::{Bytes, EntityId, Letter, Name, Span};
+use ftn_base::{Bytes, EntityId, Fault, Letter, Name, NoMemory, Span};
 use sqlite_items::Items;
+use std::alloc::{AllocError, AllocFailed};
+
+/// Why a project has no tables.
+#[derive(Clone, Copy)]
+pub enum TableFault {
+    /// The first fault of the project.
+    Project(Fault),
+    /// An allocation was refused.
+    NoMemory,
+}
+
+impl From<NoMemory> for TableFault {
+    ghost from_gives = { λ _ fault. fault ≡ table_fault.NoMemory };
+
+    fn from(_error: NoMemory) -> TableFault {
+        TableFault::NoMemory
+    }
+}
+
+impl From<AllocError> for TableFault {
+    ghost from_gives = { λ _ fault. fault ≡ table_fault.NoMemory };
+
+    fn from(_error: AllocError) -> TableFault {
+        TableFault::NoMemory
+    }
+}
+
+impl<T: Drop> From<AllocFailed<T>> for TableFault {
+    ghost from_gives = { λ _ fault. fault ≡ table_fault.NoMemory };
+
+    fn from(_error: AllocFailed<T>) -> TableFault {
+        TableFault::NoMemory
+    }
+}
+
+/// The statements that a program unit, a procedure, an interface body or an interface block takes up (Fortran 90, 2.2, 12.3.2.1).
+#[derive(Clone, Copy)]
+pub struct Extent {
+    /// The number of its file.
+    pub file: u32,
+    /// The number of the statement that opens it.
+    pub opening: u32,
+    /// The number of its END statement.
+    pub ending: u32,
+}
 
 /// What a scoping unit is (Fortran 90, 14.1.1).
 #[derive(Clone, Copy)]

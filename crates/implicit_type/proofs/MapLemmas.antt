@@ -89,3 +89,19 @@ unfolding alphabet
 inner_done old entries n many few long made =
     let all : n ≡ 26 = omega arith in
     sym (take_all n entries (omega arith)) ∙ made ∙ ap (λ k. map (λ letter. (type_of letter old, false)) (range_with_len 97 k)) all
+
+-- one more row of a map that is made row by row
+pub made_more : (f : ℕ → Entry) (entries : List Entry) (n : ℕ) (entry : Entry) → n < length entries → entry ≡ f (97 + n) →
+    take n entries ≡ map f (range_with_len 97 n) → take (n + 1) (set entries n entry) ≡ map f (range_with_len 97 (n + 1))
+made_more f entries n entry few is made =
+    take_more_set entries n entry few
+    ∙ ap (λ rows. rows ++ entry ∷ []) made
+    ∙ ap (λ entry. map f (range_with_len 97 n) ++ entry ∷ []) is
+    ∙ sym (map-range_with_len_more f 97 n (97 + n) refl)
+
+pub made_done : (f : ℕ → Entry) (entries : List Entry) (n : ℕ) → 26 ≤ n → n ≤ 26 → length entries ≡ 26 →
+    take n entries ≡ map f (range_with_len 97 n) → entries ≡ map f alphabet
+unfolding alphabet
+made_done f entries n many few long made =
+    let all : n ≡ 26 = omega arith in
+    sym (take_all n entries (omega arith)) ∙ made ∙ ap (λ k. map f (range_with_len 97 k)) all

@@ -1,10 +1,11 @@
 //! The implicit type of each letter in a scoping unit (Fortran 90, 5.3).
 
-ghost use Rattle.std.specs.Prelude.{◌≡◌, ◌≤◌, ◌-◌};
+ghost use Rattle.std.specs.Prelude.{◌≡◌, ◌≤◌, ◌-◌, IfOk, map, true};
 ghost use Rattle.ftn_base.specs.ImplicitLetters as spec;
 
-use crate::rows::{first_given, number_of, put};
-use ftn_base::{Letter, Twice, Ty};
+use crate::rows::{entry_given, first_given, number_of, put, types_of};
+use ftn_base::{Letter, NoMemory, Twice, Ty};
+use std::alloc::Global;
 use std::marker::Model;
 
 /// The implicit type of each letter, and whether a range of the scoping unit gave it.
@@ -74,6 +75,25 @@ impl LetterMap {
         }
         put(&mut entries, from, to, (letter, true));
         Ok(LetterMap { entries })
+    }
+
+    /// This map where a range gives these letters that type, whether or not one of them was given before. Letters are told by their
+    /// codes in lower case.
+    pub fn given(&self, from: u8, to: u8, letter: Letter) -> LetterMap
+        ensures { result ≡ spec.with_entry from to (letter, true) self.now }
+    {
+        let mut entries = [(Letter::Nothing, false); 26];
+        for number in 0..26 {
+            entries[number] = entry_given(&self.entries, number, from, to, letter);
+        }
+        LetterMap { entries }
+    }
+
+    /// The implicit types of the letters from A to Z.
+    pub fn types(&self, alloc: Global) -> Result<Vec<Letter>, NoMemory>
+        ensures { IfOk result (λ types. types.items ≡ map (λ entry. entry.0) self.now) }
+    {
+        types_of(alloc, &self.entries)
     }
 
     /// The implicit type of a name that begins with this letter, in lower case.

@@ -1,9 +1,11 @@
 //! The rows of a letter map.
 
-ghost use Rattle.std.specs.Prelude.{◌≡◌, ◌≤◌, ◌-◌, ◌+◌, length};
+ghost use Rattle.std.specs.Prelude.{◌≡◌, ◌≤◌, ◌<◌, ◌-◌, ◌+◌, length, map, true, if◌then◌else◌, IfOk};
 ghost use Rattle.ftn_base.specs.ImplicitLetters as spec;
+ghost use Rattle.ftn_base.specs.Letters.{is_within};
 
-use ftn_base::Letter;
+use ftn_base::{Letter, NoMemory};
+use std::alloc::Global;
 
 /// The number of a letter in lower case, from 0.
 pub fn number_of(letter: u8) -> usize
@@ -35,4 +37,34 @@ pub fn first_given(entries: &[(Letter, bool); 26], from: u8, to: u8) -> Option<u
     ensures { result ≡ spec.first_given from to entries.now }
 {
     (from..to + 1).find(|letter| entries[number_of(*letter)].1)
+}
+
+/// The entry of the letter of that number after a range.
+pub fn entry_given(
+    entries: &[(Letter, bool); 26],
+    number: usize,
+    from: u8,
+    to: u8,
+    letter: Letter,
+) -> (Letter, bool)
+    requires { number < 26 }
+    ensures { result ≡ (if is_within from to (97 + number) then (letter, true) else spec.entry_of (97 + number) entries.now) }
+{
+    let code = b'a' + number as u8;
+    if from <= code && code <= to {
+        (letter, true)
+    } else {
+        entries[number]
+    }
+}
+
+/// The types of these entries.
+pub fn types_of(alloc: Global, entries: &[(Letter, bool)]) -> Result<Vec<Letter>, NoMemory>
+    ensures { IfOk result (λ types. types.items ≡ map (λ entry. entry.0) entries.now) }
+{
+    let mut types = Vec::new(alloc);
+    for entry in entries {
+        types.push(entry.0)?;
+    }
+    Ok(types)
 }

@@ -1,0 +1,10 @@
+pub mod Painting
+pub mod Rising
+pub mod UnitExtents
+pub mod Order
+pub mod Numbers
+pub mod Hosts
+pub mod Chains
+pub mod Arounds
+pub mod Paths
+pub mod OwnStatements

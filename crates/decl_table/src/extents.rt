@@ -1,0 +1,48 @@
+//! The program units, procedures, interface bodies and interface blocks of a project.
+
+ghost use Rattle.std.specs.Prelude.{◌≡◌, ◌≤◌, ◌++◌, length, OnOk, IfOk};
+ghost use Rattle.std.specs.List.{flat_map};
+ghost use Rattle.ftn_tree.specs.Extents as spec;
+
+use ftn_base::NoMemory;
+use ftn_tree::{Extent, FileTree, Unit};
+use std::alloc::Global;
+
+/// Adds a unit of a file and then all that is inside it.
+fn push_unit(file: u32, unit: &Unit, found: &mut Vec<Extent>) -> Result<(), NoMemory>
+    ensures { OnOk result (found.new.items ≡ found.old.items ++ spec.extents_in file unit.now) }
+{
+    found.push(Extent {
+        file,
+        opening: unit.opening,
+        ending: unit.ending,
+    })?;
+    for inner in unit.inner.as_slice() {
+        push_unit(file, inner, found)?;
+    }
+    Ok(())
+}
+
+/// Adds the units of a file and all that is inside them.
+fn push_units(file: u32, units: &[Unit], found: &mut Vec<Extent>) -> Result<(), NoMemory>
+    ensures { OnOk result (found.new.items ≡ found.old.items ++ flat_map (spec.extents_in file) units.now) }
+{
+    for unit in units {
+        push_unit(file, unit, found)?;
+    }
+    Ok(())
+}
+
+/// All of a project, in the order of their openings.
+pub(crate) fn extents(alloc: Global, files: &[FileTree]) -> Result<Vec<Extent>, NoMemory>
+    requires { length files.now ≤ 4096 }
+    ensures { IfOk result (λ found. found.items ≡ spec.extents files.now) }
+{
+    let mut found = Vec::new(alloc);
+    let mut file = 0;
+    for tree in files {
+        push_units(file, tree.units.as_slice(), &mut found)?;
+        file += 1;
+    }
+    Ok(found)
+}
