@@ -8,3 +8,11 @@ pub mod Chains
 pub mod Arounds
 pub mod Paths
 pub mod OwnStatements
+pub mod FindingOrder
+pub mod FirstRules
+pub mod FirstSayings
+pub mod Gathering
+pub mod KnownNames
+pub mod NameFindings
+pub mod Places
+pub mod SayingTurns

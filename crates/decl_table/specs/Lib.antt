@@ -1,3 +1,4 @@
 pub mod Rows
 pub mod Located
 pub mod Steps
+pub mod steps

@@ -1,9 +1,23 @@
-//! Scoping units and declared entities of a project.
+//! Declarations (Fortran 90, 5, 12.5.2, 14.1.2): the scoping units of a project, the first fault that the names of a scoping unit give,
+//! and declared entities.
+//!
+//! `first_of_names` gives exactly the first fault that is defined, or none where there is none. To be trusted are `Exclusions`,
+//! `Sayings` and `DeclarationFaults` of `ftn_tree`; `steps` serves proofs alone. It isn't said how long a call takes: with a look-up
+//! by name and a fixed number of tests for each mention of a name.
 #![tactic(auto)]
 
 mod extents;
+mod finding;
+mod firsts;
 mod forms;
+mod known_names;
+mod names;
 mod own;
 mod rows;
+mod rules;
+mod saying;
 mod scoping;
 
+pub use finding::{Finding, Place};
+pub use names::first_of_names;
+pub use saying::Saying;

@@ -1,0 +1,6 @@
+-- Definitions that serve proofs of the code alone; no public clause cites them.
+pub mod Firsts
+pub mod Gathering
+pub mod KnownNames
+pub mod NameFindings
+pub mod Rules
