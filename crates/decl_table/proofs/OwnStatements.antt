@@ -6,7 +6,7 @@ use Rattle.std.specs.Option.{option_and_then}
 use Rattle.std.proofs.lemmas.Bool.Decides.{nat_tests}
 use Rattle.ftn_tree.specs.declared.table.Extent.{Extent}
 use Rattle.ftn_tree.specs.Extents.{same_extent, is_some_extent}
-use Rattle.decl_table.specs.Steps.{is_number, own_by}
+use Rattle.decl_table.specs.Numbered.{is_number, own_by}
 use Rattle.std.specs.List.{filter, range_with_len, last_or}
 use Rattle.std.proofs.lemmas.Bool.{cases_eq}
 use Rattle.ftn_tree.specs.declared.unit.FileTree.{FileTree}

@@ -13,7 +13,7 @@ use Rattle.ftn_tree.specs.Extents.{covers, encloses, same_extent, innermost, sco
 use Rattle.ftn_tree.specs.Scopes.{host_number, scope_number, chain, scope_name, path_of}
 use Rattle.ftn_tree.specs.ScopeLetters.{after_own, entries_of}
 use Rattle.ftn_tree.specs.Projects.{AreTrees}
-use Rattle.decl_table.specs.Steps.{path_by, entries_by}
+use Rattle.decl_table.specs.Numbered.{path_by, entries_by}
 use Rattle.decl_table.proofs.Order.{Each, Comes, Ordered, statements_in}
 use Rattle.decl_table.proofs.Hosts.{around_is, before_it, after_it, position_is}
 use Rattle.decl_table.proofs.Chains.{Split, none_of, last_split, chain_is, host_chain}

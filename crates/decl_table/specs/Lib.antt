@@ -1,4 +1,4 @@
 pub mod Rows
 pub mod Located
-pub mod Steps
+pub mod Numbered
 pub mod steps

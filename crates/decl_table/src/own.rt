@@ -5,7 +5,7 @@ ghost use Rattle.ftn_tree.specs.Extents.{scoping};
 ghost use Rattle.ftn_tree.specs.Projects.{AreTrees};
 ghost use Rattle.ftn_tree.specs.Scopes as scopes;
 ghost use Rattle.decl_table.specs.Located.{IsScoping};
-ghost use Rattle.decl_table.specs.Steps as spec;
+ghost use Rattle.decl_table.specs.Numbered as spec;
 
 use crate::rows::{Row, number_at};
 use ftn_base::NoMemory;

@@ -1,7 +1,7 @@
 use Rattle.std.proofs.Common.{◌≡◌, ◌-◌}
 use Rattle.std.specs.List.{filter, range_with_len}
 use Rattle.decl_table.specs.Rows.{number_at}
-use Rattle.decl_table.specs.Steps.{is_number}
+use Rattle.decl_table.specs.Numbered.{is_number}
 use Rattle.decl_table.proofs.own.own_statements.Given as goal
 
 abbrev pub invariant-loop-at : goal.invariant-loop-at
