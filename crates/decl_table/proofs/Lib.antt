@@ -8,11 +8,13 @@ pub mod Chains
 pub mod Arounds
 pub mod Paths
 pub mod OwnStatements
+pub mod DraftOrder
 pub mod FindingOrder
 pub mod FirstRules
 pub mod FirstSayings
 pub mod Gathering
 pub mod KnownNames
+pub mod Merging
 pub mod NameFindings
 pub mod Places
 pub mod SayingTurns

@@ -1,6 +1,8 @@
 -- Definitions that serve proofs of the code alone; no public clause cites them.
+pub mod Drafts
 pub mod Firsts
 pub mod Gathering
 pub mod KnownNames
 pub mod NameFindings
+pub mod Ordering
 pub mod Rules

@@ -6,6 +6,8 @@
 //! by name and a fixed number of tests for each mention of a name.
 #![tactic(auto)]
 
+mod draft;
+mod draft_order;
 mod extents;
 mod finding;
 mod firsts;
