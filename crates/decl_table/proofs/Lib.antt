@@ -13,6 +13,7 @@ pub mod FindingOrder
 pub mod FirstRules
 pub mod FirstSayings
 pub mod Gathering
+pub mod HeardNames
 pub mod KnownNames
 pub mod Merging
 pub mod NameFindings

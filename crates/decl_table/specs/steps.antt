@@ -2,7 +2,9 @@
 pub mod Drafts
 pub mod Firsts
 pub mod Gathering
+pub mod Heard
 pub mod KnownNames
 pub mod NameFindings
 pub mod Ordering
 pub mod Rules
+pub mod Seen

@@ -12,6 +12,7 @@ mod extents;
 mod finding;
 mod firsts;
 mod forms;
+mod heard;
 mod known_names;
 mod names;
 mod own;
@@ -19,6 +20,7 @@ mod rows;
 mod rules;
 mod saying;
 mod scoping;
+mod seen;
 
 pub use finding::{Finding, Place};
 pub use names::first_of_names;
