@@ -6,6 +6,7 @@
 //! by name and a fixed number of tests for each mention of a name.
 #![tactic(auto)]
 
+mod declared_names;
 mod draft;
 mod draft_order;
 mod extents;
@@ -15,6 +16,7 @@ mod forms;
 mod heard;
 mod known_names;
 mod names;
+mod noted;
 mod own;
 mod rows;
 mod rules;

@@ -1,5 +1,5 @@
 -- Names that have come before.
-use Rattle.std.specs.Prelude.{ℕ, Bool, not, if◌then◌else◌, List, [], ◌∷◌}
+use Rattle.std.specs.Prelude.{ℕ, Bool, List}
 use Rattle.std.specs.List.{list_any}
 use Rattle.std.specs.Borrow.{Bor}
 use Rattle.std.specs.Str.{bytes_eq}
@@ -10,9 +10,3 @@ is_among name names = list_any (λ earlier. bytes_eq earlier name) names
 
 abbrev pub has_come : {S : Type 0} → IndexSet (Bor (List ℕ)) S → List ℕ → Bool
 has_come seen name = list_any (λ key. bytes_eq key.now name) seen.keys
-
--- those whose names aren't among these and come for the first time
-abbrev pub first_by : {X : Type 0} → (X → List ℕ) → List (List ℕ) → List X → List X
-first_by name_of names [] = []
-first_by name_of names (x ∷ rest) =
-    if is_among (name_of x) names then first_by name_of names rest else x ∷ first_by name_of (name_of x ∷ names) rest
