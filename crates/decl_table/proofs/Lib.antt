@@ -17,6 +17,7 @@ pub mod HeardNames
 pub mod KnownNames
 pub mod Merging
 pub mod NameFindings
+pub mod NameTurns
 pub mod NotedNames
 pub mod Places
 pub mod SayingTurns
