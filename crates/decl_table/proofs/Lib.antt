@@ -1,5 +1,7 @@
 pub mod Painting
 pub mod Rising
+pub mod Turns
+pub mod UnitDrafts
 pub mod UnitExtents
 pub mod Order
 pub mod Numbers
@@ -9,6 +11,7 @@ pub mod Arounds
 pub mod Paths
 pub mod OwnStatements
 pub mod DraftOrder
+pub mod DraftedNames
 pub mod FindingOrder
 pub mod FirstRules
 pub mod FirstSayings

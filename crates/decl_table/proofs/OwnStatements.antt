@@ -18,7 +18,8 @@ use Rattle.decl_table.proofs.Order.{Each, Comes, Within, Ordered, statements_in}
 use Rattle.decl_table.proofs.Hosts.{before_it, after_it, position_is}
 use Rattle.decl_table.proofs.Arounds.{ordered_units, statement_scope, scope_there, split_at}
 
-number_of : (files : List FileTree) → AreTrees files → (i : ℕ) (e : Extent) → slice_get (scoping files) i ≡ Some e → scope_number files e ≡ Some i
+-- the number of the extent there
+pub number_of : (files : List FileTree) → AreTrees files → (i : ℕ) (e : Extent) → slice_get (scoping files) i ≡ Some e → scope_number files e ≡ Some i
 number_of files are i e there =
     let (a, b, split, long) = split_at (scoping files) i e there in
     ap (λ es. position (same_extent e) es) split

@@ -10,3 +10,4 @@ pub mod Noted
 pub mod Ordering
 pub mod Rules
 pub mod Seen
+pub mod UnitDrafts

@@ -23,6 +23,7 @@ mod rules;
 mod saying;
 mod scoping;
 mod seen;
+mod unit_drafts;
 
 pub use finding::{Finding, Place};
 pub use names::first_of_names;
