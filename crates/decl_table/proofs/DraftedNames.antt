@@ -1,6 +1,8 @@
 -- The drafts of a scoping unit's names stand for what the definition drafts.
-use Rattle.std.proofs.Common.{◌≡◌, ℕ, Bool, true, false, not, cond, ◌||◌, ◌&&◌, List, [], ◌∷◌, ◌++◌, map, Option, Some, None, option_map, refl, sym, ap, ap₂, ◌∙◌, if◌then◌else◌}
-use Rattle.std.specs.Prelude.{is_some}
+use Rattle.std.proofs.Common.{◌≡◌, ℕ, Bool, true, false, not, cond, ◌||◌, ◌&&◌, ◌+◌, List, [], ◌∷◌, ◌++◌, map, take, append_assoc, Option, Some, None, option_map, refl, sym, ap, ap₂, ◌∙◌, if◌then◌else◌}
+use Rattle.std.specs.Prelude.{is_some, slice_get}
+use Rattle.std.proofs.lemmas.Grind.{flat_map-append}
+use Rattle.std.proofs.lemmas.List.{append-nil, map-append}
 use Rattle.std.specs.List.{cons_option, filter, find, list_any, flat_map}
 use Rattle.std.specs.Option.{option_map_or, unwrap_or}
 use Rattle.ftn_tree.specs.declared.mention.Mention.{Mention}
@@ -24,15 +26,16 @@ use Rattle.decl_table.specs.steps.Drafts.{drafted_of}
 use Rattle.decl_table.specs.steps.Heard.{heard_of, kind_heard, first_token, is, shaped}
 use Rattle.decl_table.specs.steps.Noted.{noted_of}
 use Rattle.decl_table.specs.steps.Seen.{is_among}
+use Rattle.decl_table.proofs.Turns.{taken}
 
 -- ---- what is heard of a name tells what it declares
 
 is_found : {X : Type 0} (test : X → Bool) (f : X → ℕ) (all : List X) → list_any test all ≡ is_some (option_map f (find test all))
 is_found test f [] = refl
-is_found test f (x ∷ all) = by (test x) where
-  by : (b : Bool) → (b || list_any test all) ≡ is_some (option_map f (cond b (Some x) (find test all)))
-  by true = refl
-  by false = is_found test f all
+is_found test f (x ∷ all) = by (is_found test f all) (test x) where
+  by : list_any test all ≡ is_some (option_map f (find test all)) → (b : Bool) → (b || list_any test all) ≡ is_some (option_map f (cond b (Some x) (find test all)))
+  by rest true = refl
+  by rest false = rest
 
 kind_is : (has_result referenced : Bool) (said : List Saying) → kind_said has_result referenced said ≡ kind_heard has_result referenced (heard_of said)
 kind_is has_result referenced said =
@@ -42,7 +45,7 @@ kind_is has_result referenced said =
       else if list_any (is role.Inner) said then None
       else if generic then Some kinds.Generic
       else if label then Some kinds.Construct
-      else if list_any outside said || (referenced && list_any typed said && not (list_any shaped said)) then None
+      else if list_any outside said || (referenced && (list_any typed said && not (list_any shaped said))) then None
       else if list_any parameter said then Some kinds.Constant
       else if list_any declares said then Some kinds.Variable
       else None)
@@ -127,3 +130,16 @@ module _ (files : List FileTree) (e : Extent) (number : ℕ) (numbered : scope_n
 
   pub all_drafted : map (drafted_of files) (drafts_of files e number (sayings files e) (own_mentions files e)) ≡ drafts_in files e
   all_drafted = names_drafted (sayings files e) _ []
+
+-- one more scoping unit
+pub more_names : (files : List FileTree) (all : List Extent) (i : ℕ) (e : Extent) → slice_get all i ≡ Some e → (start made now : List Draft) (number : ℕ) → number ≡ i
+    → scope_number files e ≡ Some i → (said : List Saying) (own : List Mention) → said ≡ sayings files e → own ≡ own_mentions files e
+    → map (drafted_of files) made ≡ map (drafted_of files) start ++ flat_map (drafts_in files) (take i all) → now ≡ made ++ drafts_of files e number said own
+    → map (drafted_of files) now ≡ map (drafted_of files) start ++ flat_map (drafts_in files) (take (i + 1) all)
+more_names files all i e here start made now number same numbered said own said_is own_is before pushed =
+    ap (map (drafted_of files)) (pushed ∙ ap (λ xs. made ++ xs) (ap (λ n. drafts_of files e n said own) same ∙ ap₂ (drafts_of files e i) said_is own_is))
+    ∙ map-append (drafted_of files) made (drafts_of files e i (sayings files e) (own_mentions files e))
+    ∙ ap₂ ◌++◌ before (all_drafted files e i numbered)
+    ∙ append_assoc (map (drafted_of files) start) (flat_map (drafts_in files) (take i all)) (drafts_in files e)
+    ∙ ap (λ xs. map (drafted_of files) start ++ xs) (ap (λ xs. flat_map (drafts_in files) (take i all) ++ xs) (sym (append-nil (drafts_in files e)))
+    ∙ sym (flat_map-append (drafts_in files) (take i all) (e ∷ [])) ∙ ap (flat_map (drafts_in files)) (sym (taken all i e here)))

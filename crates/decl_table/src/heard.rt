@@ -102,6 +102,13 @@ impl Heard {
         }
     }
 
+    /// Whether a type declaration gives it a type, and nothing else declares it (12.3.2.2, 12.4).
+    fn is_typed_alone(&self) -> bool
+        ensures { result ≡ steps.is_typed_alone self.now }
+    {
+        self.typed && !self.shaped
+    }
+
     /// What the name declares, where it is referenced with parentheses or not, and RESULT stands in its scoping unit's opening or not.
     pub fn kind(&self, has_result: bool, referenced: bool) -> Option<EntityKind>
         ensures { result ≡ steps.kind_heard has_result referenced self.now }
@@ -120,7 +127,7 @@ impl Heard {
             Some(EntityKind::Generic)
         } else if self.label.is_some() {
             Some(EntityKind::Construct)
-        } else if self.outside || (referenced && self.typed && !self.shaped) {
+        } else if self.outside || (referenced && self.is_typed_alone()) {
             None
         } else if self.parameter {
             Some(EntityKind::Constant)

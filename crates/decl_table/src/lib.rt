@@ -15,6 +15,7 @@ mod firsts;
 mod forms;
 mod heard;
 mod known_names;
+mod name_drafts;
 mod names;
 mod noted;
 mod own;

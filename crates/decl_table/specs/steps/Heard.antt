@@ -70,6 +70,9 @@ after s h = record {
   shaped = shaped s || h.shaped;
 }
 
+abbrev pub is_typed_alone : Heard → Bool
+is_typed_alone h = h.typed && not h.shaped
+
 abbrev pub kind_heard : Bool → Bool → Heard → Option EntityKind
 kind_heard has_result referenced h =
     if h.dummy then Some kinds.Dummy
@@ -77,7 +80,7 @@ kind_heard has_result referenced h =
     else if h.inner then None
     else if is_some h.generic then Some kinds.Generic
     else if is_some h.label then Some kinds.Construct
-    else if h.outside || (referenced && h.typed && not h.shaped) then None
+    else if h.outside || (referenced && is_typed_alone h) then None
     else if h.parameter then Some kinds.Constant
     else if h.declared then Some kinds.Variable
     else None
