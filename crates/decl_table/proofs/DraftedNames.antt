@@ -40,15 +40,15 @@ is_found test f (x ∷ all) = by (is_found test f all) (test x) where
 kind_is : (has_result referenced : Bool) (said : List Saying) → kind_said has_result referenced said ≡ kind_heard has_result referenced (heard_of said)
 kind_is has_result referenced said =
     ap₂ (λ generic label.
-      if list_any dummy said then Some kinds.Dummy
-      else if list_any answer said then (if has_result then Some kinds.Answer else None)
-      else if list_any (is role.Inner) said then None
-      else if generic then Some kinds.Generic
-      else if label then Some kinds.Construct
-      else if list_any outside said || (referenced && (list_any typed said && not (list_any shaped said))) then None
-      else if list_any parameter said then Some kinds.Constant
-      else if list_any declares said then Some kinds.Variable
-      else None)
+    if list_any dummy said then Some kinds.Dummy
+    else if list_any answer said then (if has_result then Some kinds.Answer else None)
+    else if list_any (is role.Inner) said then None
+    else if generic then Some kinds.Generic
+    else if label then Some kinds.Construct
+    else if list_any outside said || (referenced && (list_any typed said && not (list_any shaped said))) then None
+    else if list_any parameter said then Some kinds.Constant
+    else if list_any declares said then Some kinds.Variable
+    else None)
     (is_found (is role.Generic) (λ (s : Saying). s.said.token) said) (is_found (is role.Label) (λ (s : Saying). s.said.token) said)
 
 token_or : (found : Option Saying) (first : ℕ) → unwrap_or (option_map (λ (s : Saying). s.said.token) found) first ≡ option_map_or (λ (s : Saying). s.said.token) found first

@@ -88,3 +88,6 @@ pub declared_are : (files : List FileTree) (e : Extent) (number : ℕ) (said : L
 declared_are files e number said own owner has_result is result noted heard same alike =
     ap (λ o. drafts_by o noted heard [] said) (is ∙ ap (λ r. record { file = e.file; number = number; has_result = r }) result)
     ∙ same_drafts (owner_of files e number) noted (λ name. noted_of files e.file name own) heard (λ name. heard_of (filter (same_name name) said)) same alike [] said
+
+pub opened_or : {X : Type 0} (all : List X) (i : ℕ) (d : X) → i < length all → drop i all ≡ get_or all i d ∷ drop (i + 1) all
+opened_or all i d lt = drop-cons all i d lt ∙ ap (λ k. get_or all i d ∷ drop k all) (next_is i)

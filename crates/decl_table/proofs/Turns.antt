@@ -33,3 +33,7 @@ map_self (x ∷ xs) = ap (λ rest. x ∷ rest) (map_self xs)
 
 pub image : {X Z : Type 0} (g : X → Z) (zs : List Z) (xs : List X) (i : ℕ) (z : Z) (x : X) → zs ≡ map g xs → z ≡ get_or zs i z → slice_get xs i ≡ Some x → z ≡ g x
 image g zs xs i z x same here there = alike (λ z. z) g zs xs i z x (map_self zs ∙ same) here there
+
+pub image_or : {X Z : Type 0} (g : X → Z) (zs : List Z) (xs : List X) (i : ℕ) (d : Z) (x : X) → zs ≡ map g xs → slice_get xs i ≡ Some x → get_or zs i d ≡ g x
+image_or g zs xs i d x same there =
+    get_or_from_slice_get zs i (g x) d (ap (λ es. slice_get es i) same ∙ slice_get-map g xs i ∙ ap (option_map g) there)

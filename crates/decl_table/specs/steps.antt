@@ -1,4 +1,6 @@
 -- Definitions that serve proofs of the code alone; no public clause cites them.
+pub mod Blanks
+pub mod Blocks
 pub mod DeclaredNames
 pub mod Drafts
 pub mod Firsts

@@ -6,6 +6,8 @@
 //! by name and a fixed number of tests for each mention of a name.
 #![tactic(auto)]
 
+mod block_names;
+mod blocks;
 mod declared_names;
 mod draft;
 mod draft_order;
@@ -19,6 +21,7 @@ mod name_drafts;
 mod names;
 mod noted;
 mod own;
+mod program_units;
 mod rows;
 mod rules;
 mod saying;

@@ -25,12 +25,12 @@ loop-s-preserved c =
     let put = c.in_ok-is_first.ensures.put in
     elim c.if-branch.branch [
       | then-branch+in_ok-push_if w ↦ (
-          s.name ∷ names,
-          λ other. put other ∙ ap₂ ◌||◌ (ap (λ k. bytes_eq k other) named) (known other),
-          first_turn owner noted heard names s rest _ c.loop-s.found.items c.if-branch.found.items key c.s.inside.said.now.token w.noted_of-noted.result w.heard_of-heard.result
-          w.draft_name.result (not_there c.in_ok-is_first.field-0 (is_among s.name names) answer w.if-branch.true) named (ap (λ (s : Saying). s.said.token) c.s.view_is)
-          w.noted_of-noted.ensures w.heard_of-heard.ensures w.draft_name.ensures before (ap (λ f. f.items) w.found-is ∙ w.in_ok-push_if.ensures),
-        )
+        s.name ∷ names,
+        λ other. put other ∙ ap₂ ◌||◌ (ap (λ k. bytes_eq k other) named) (known other),
+        first_turn owner noted heard names s rest _ c.loop-s.found.items c.if-branch.found.items key c.s.inside.said.now.token w.noted_of-noted.result w.heard_of-heard.result
+            w.draft_name.result (not_there c.in_ok-is_first.field-0 (is_among s.name names) answer w.if-branch.true) named (ap (λ (s : Saying). s.said.token) c.s.view_is)
+            w.noted_of-noted.ensures w.heard_of-heard.ensures w.draft_name.ensures before (ap (λ f. f.items) w.found-is ∙ w.in_ok-push_if.ensures),
+      )
       | else-branch w ↦
           let there = is_there c.in_ok-is_first.field-0 (is_among s.name names) answer w.if-branch.false in (
             names,

@@ -27,11 +27,11 @@ loop-unit-preserved c =
     let e = get_or units i d in
     let here = ap (λ es. slice_get es i) (sym (c.deref-unit-items.ensures.value ∙ c.requires.scoping.units)) ∙ slice_get-get_or units i d c.loop-unit-test.true in
     let said = alike (λ one. one.items) (sayings files) c.args.said.now (scoping files) i c.index-said-at.result e c.requires.said
-        (c.index-said-at.is ∙ ap (λ n. get_or c.args.said.now n c.index-said-at.result) same) here in
+    (c.index-said-at.is ∙ ap (λ n. get_or c.args.said.now n c.index-said-at.result) same) here in
     let own = alike (λ one. one.items) (own_mentions files) c.args.own.now (scoping files) i c.index-own-at.result e c.requires.own
-        (c.index-own-at.is ∙ ap (λ n. get_or c.args.own.now n c.index-own-at.result) same) here in (
+    (c.index-own-at.is ∙ ap (λ n. get_or c.args.own.now n c.index-own-at.result) same) here in (
       ap (λ n. n + 1) same,
       more_names files (scoping files) i e here c.args.found.now.items c.loop-unit.found.items c.push_declared.new.found.items c.loop-unit.number same
-      (number_of files c.requires.trees i e here) c.deref.result.now c.deref-in-loop-unit.result.now (c.deref.ensures.value ∙ said) (c.deref-in-loop-unit.ensures.value ∙ own)
-      c.loop-unit.invariant.1 c.in_ok-push_declared.ensures,
+          (number_of files c.requires.trees i e here) c.deref.result.now c.deref-in-loop-unit.result.now (c.deref.ensures.value ∙ said) (c.deref-in-loop-unit.ensures.value ∙ own)
+          c.loop-unit.invariant.1 c.in_ok-push_declared.ensures,
     )

@@ -41,20 +41,20 @@ loop-unit-preserved c =
     let bodies = c.args.scoping.now.bodies.items in
     let hosts = c.args.scoping.now.hosts.items in
     let body = image (is_body files) bodies (scoping files) i c.index.result.now e c.requires.scoping.bodies
-        (c.index.ensures ∙ ap (λ n. get_or bodies n c.index.result.now) same) here in
+    (c.index.ensures ∙ ap (λ n. get_or bodies n c.index.result.now) same) here in
     elim c.if-not-index.branch [
       | then-not-index+in_ok-push w ↦
           let host = w.index-then-not-index.result.now in
           let hosted = image (host_number files) hosts (scoping files) i host e c.requires.scoping.hosts
-              (w.index-then-not-index.ensures ∙ ap (λ n. get_or hosts n host) same) here in (
+          (w.index-then-not-index.ensures ∙ ap (λ n. get_or hosts n host) same) here in (
             ap (λ n. n + 1) same,
             added files (λ e. not (is_body files e)) (scoping files) i e here c.args.found.now.items c.loop-unit.found.items c.if-not-index.found.items host w.draft_unit.result
-            (ap not (sym body ∙ w.if-not-index.true)) c.loop-unit.invariant.1 (ap (λ f. f.items) w.found-is ∙ w.in_ok-push.ensures.items)
-            (w.draft_unit.ensures ∙ ap (λ n. draft_by files e n host) same) (number_of files c.requires.trees i e here) hosted,
+                (ap not (sym body ∙ w.if-not-index.true)) c.loop-unit.invariant.1 (ap (λ f. f.items) w.found-is ∙ w.in_ok-push.ensures.items)
+                (w.draft_unit.ensures ∙ ap (λ n. draft_by files e n host) same) (number_of files c.requires.trees i e here) hosted,
           )
       | else-not-index w ↦ (
-          ap (λ n. n + 1) same,
-          passed_over files (λ e. not (is_body files e)) (scoping files) i e here c.args.found.now.items c.loop-unit.found.items c.if-not-index.found.items
-          (ap not (sym body ∙ w.if-not-index.false)) c.loop-unit.invariant.1 (ap (λ f. f.items) w.found-is),
-        )
+        ap (λ n. n + 1) same,
+        passed_over files (λ e. not (is_body files e)) (scoping files) i e here c.args.found.now.items c.loop-unit.found.items c.if-not-index.found.items
+            (ap not (sym body ∙ w.if-not-index.false)) c.loop-unit.invariant.1 (ap (λ f. f.items) w.found-is),
+      )
     ]
