@@ -46,13 +46,13 @@ last_among p test x passes (y ∷ xs) found is = by (last_among p test x passes 
   by : ((found : Option _) → last_or found (filter test xs) ≡ Some x → (found ≡ Some x) ⊎ (list_any p xs ≡ true)) → (b : Bool) → test y ≡ b
       → (found ≡ Some x) ⊎ (list_any p (y ∷ xs) ≡ true)
   by again true here = elim (again (Some y) (sym (ap (λ b. last_or found (cond b (y ∷ filter test xs) (filter test xs))) here) ∙ is)) [
-      | inl same ↦ let one : y ≡ x = cc same in inr (ap (λ b. b || list_any p xs) (ap p one ∙ passes))
-      | inr rest ↦ inr (either (p y) (list_any p xs) rest)
-    ]
+    | inl same ↦ let one : y ≡ x = cc same in inr (ap (λ b. b || list_any p xs) (ap p one ∙ passes))
+    | inr rest ↦ inr (either (p y) (list_any p xs) rest)
+  ]
   by again false here = elim (again found (sym (ap (λ b. last_or found (cond b (y ∷ filter test xs) (filter test xs))) here) ∙ is)) [
-      | inl same ↦ inl same
-      | inr rest ↦ inr (either (p y) (list_any p xs) rest)
-    ]
+    | inl same ↦ inl same
+    | inr rest ↦ inr (either (p y) (list_any p xs) rest)
+  ]
 
 -- a host has a number
 pub hostless : (files : List FileTree) (e : Extent) → is_some (host_number files e) ≡ not (has_no_host files e)
@@ -60,9 +60,9 @@ hostless files e = by (host_of files e) refl where
   by : (host : Option Extent) → host_of files e ≡ host → is_some (option_and_then (scope_number files) host) ≡ not (option_map_or (λ host. false) host true)
   by None is = refl
   by (Some h) is = is_positioned (same_extent h) (scoping files) ∙ elim (last_among (same_extent h) (encloses e.file e.opening) h (same_self h) (scoping files) None is) [
-      | inl same ↦ absurd (cc same)
-      | inr there ↦ there
-    ]
+    | inl same ↦ absurd (cc same)
+    | inr there ↦ there
+  ]
 
 -- ---- one more unit
 

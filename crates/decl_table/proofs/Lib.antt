@@ -8,6 +8,7 @@ pub mod Numbers
 pub mod Hostless
 pub mod Hosts
 pub mod Chains
+pub mod AllDrafts
 pub mod Arounds
 pub mod Paths
 pub mod OwnStatements

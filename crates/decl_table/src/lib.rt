@@ -11,6 +11,7 @@ mod blocks;
 mod declared_names;
 mod draft;
 mod draft_order;
+mod drafts;
 mod extents;
 mod finding;
 mod firsts;

@@ -22,17 +22,17 @@ loop-at-preserved c =
     let known = c.loop-at.invariant.1 in
     let rest = drop (i + 1) c.args.names.now in
     let before = c.loop-at.invariant.2
-        ∙ ap (λ xs. map (drafted_of files) c.loop-at.found.items ++ map (draft_block files) (firsts_after gs (map (global_of files) xs))) (opened_or c.args.names.now i d c.loop-at-test.true) in
+    ∙ ap (λ xs. map (drafted_of files) c.loop-at.found.items ++ map (draft_block files) (firsts_after gs (map (global_of files) xs))) (opened_or c.args.names.now i d c.loop-at-test.true) in
     let answer = c.in_ok-is_first.ensures.first ∙ ap not (known key ∙ ap (is_given gs) named) in
     let put = c.in_ok-is_first.ensures.put in
     elim c.if-branch.branch [
       | then-branch+in_ok-push w ↦ (
-          global_of files at ∷ gs,
-          λ other. put other ∙ ap₂ ◌||◌ (ap (λ k. bytes_eq k other) named) (known other),
-          first_block files gs at rest _ c.loop-at.found.items c.if-branch.found.items w.draft_block.result
-          (not_there c.in_ok-is_first.field-0 (is_given gs (name_at files at.file at.token)) answer w.if-branch.true) before w.draft_block.ensures
-          (ap (λ f. f.items) w.found-is ∙ w.in_ok-push.ensures.items),
-        )
+        global_of files at ∷ gs,
+        λ other. put other ∙ ap₂ ◌||◌ (ap (λ k. bytes_eq k other) named) (known other),
+        first_block files gs at rest _ c.loop-at.found.items c.if-branch.found.items w.draft_block.result
+            (not_there c.in_ok-is_first.field-0 (is_given gs (name_at files at.file at.token)) answer w.if-branch.true) before w.draft_block.ensures
+            (ap (λ f. f.items) w.found-is ∙ w.in_ok-push.ensures.items),
+      )
       | else-branch w ↦
           let there = is_there c.in_ok-is_first.field-0 (is_given gs (name_at files at.file at.token)) answer w.if-branch.false in (
             gs,
