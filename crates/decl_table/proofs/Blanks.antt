@@ -1,5 +1,5 @@
 -- The first statement of some units that lists blank common.
-use Rattle.std.proofs.Common.{◌≡◌, ℕ, zero, suc, ◌+◌, ◌-◌, ◌≤◌, ◌<◌, arith, Bool, true, false, cond, List, [], ◌∷◌, ◌++◌, map, Option, Some, None, refl, sym, ap, ap₂, ◌∙◌}
+use Rattle.std.proofs.Common.{◌≡◌, ℕ, zero, suc, ◌+◌, ◌-◌, ◌≤◌, ◌<◌, arith, Bool, true, false, cond, List, [], ◌∷◌, ◌++◌, map, Some, None, refl, sym, ap, ◌∙◌}
 use Rattle.std.specs.List.{filter, find, range_with_len}
 use Rattle.std.proofs.lemmas.List.{append-nil, map-append}
 use Rattle.ftn_tree.specs.declared.table.Extent.{Extent}
@@ -9,7 +9,6 @@ use Rattle.ftn_tree.specs.Scopes.{all_statements, first_token_at}
 use Rattle.ftn_tree.specs.GlobalNames.{Place, place}
 use Rattle.ftn_tree.specs.DeclaredEntities.{Drafted, draft_blank, lists_blank_at}
 use Rattle.decl_table.specs.declared.draft.Draft.{Draft}
-use Rattle.decl_table.specs.declared.block_names.TokenAt.{TokenAt}
 use Rattle.decl_table.specs.steps.Blocks.{block_as}
 use Rattle.decl_table.specs.steps.Blanks.{blanks_of}
 use Rattle.decl_table.specs.steps.Drafts.{drafted_of}

@@ -6,24 +6,20 @@ use Rattle.std.proofs.lemmas.List.{append-nil, map-append}
 use Rattle.std.specs.List.{cons_option, filter, find, list_any, flat_map}
 use Rattle.std.specs.Option.{option_map_or, unwrap_or}
 use Rattle.ftn_tree.specs.declared.mention.Mention.{Mention}
-use Rattle.ftn_tree.specs.declared.mention.Role.{Role}
 use Rattle.ftn_tree.specs.declared.mention.Role.TheVariants as role
 use Rattle.ftn_tree.specs.declared.table.EntityKind.{EntityKind}
 use Rattle.ftn_tree.specs.declared.table.EntityKind.TheVariants as kinds
 use Rattle.ftn_tree.specs.declared.table.Extent.{Extent}
 use Rattle.ftn_tree.specs.declared.unit.FileTree.{FileTree}
-use Rattle.ftn_tree.specs.Extents.{layer_at}
 use Rattle.ftn_tree.specs.Scopes.{name_at, scope_number}
 use Rattle.ftn_tree.specs.GlobalNames.{place}
-use Rattle.ftn_tree.specs.Sayings.{Saying, saying, sayings, said_at, same_name, typed, dummy, answer, outside, parameter, declares}
+use Rattle.ftn_tree.specs.Sayings.{Saying, saying, sayings, same_name, typed, dummy, answer, outside, parameter, declares}
 use Rattle.ftn_tree.specs.DeclaredEntities.{Drafted, drafted, has_type, kind_said, own_place, own_mentions, draft_name, drafts_in, names_after, first_occurrence, is_referenced}
-use Rattle.decl_table.specs.declared.declared_names.Owner.{Owner}
 use Rattle.decl_table.specs.declared.draft.Draft.{Draft}
-use Rattle.decl_table.specs.declared.heard.Heard.{Heard}
 use Rattle.decl_table.specs.declared.noted.Noted.{Noted}
 use Rattle.decl_table.specs.steps.DeclaredNames.{draft_as, draft_heard, drafts_by, drafts_of, owner_of, place_heard}
 use Rattle.decl_table.specs.steps.Drafts.{drafted_of}
-use Rattle.decl_table.specs.steps.Heard.{heard_of, kind_heard, first_token, is, shaped}
+use Rattle.decl_table.specs.steps.Heard.{heard_of, kind_heard, is, shaped}
 use Rattle.decl_table.specs.steps.Noted.{noted_of}
 use Rattle.decl_table.specs.steps.Seen.{is_among}
 use Rattle.decl_table.proofs.Turns.{taken}

@@ -1,7 +1,6 @@
 -- What is heard of each name, with one more saying before.
-use Rattle.std.proofs.Common.{◌≡◌, ℕ, ◌-◌, ◌+◌, ◌<◌, ◌≤◌, suc, arith, Bool, true, false, cond, List, [], ◌∷◌, drop, length, get_or, drop-cons, Option, Some, None, option_map, bytes_eq, refl, sym, ap, ap₂, ◌∙◌, subst}
+use Rattle.std.proofs.Common.{◌≡◌, ℕ, ◌-◌, ◌<◌, ◌≤◌, suc, arith, Bool, true, false, cond, List, ◌∷◌, drop, length, get_or, drop-cons, Option, Some, option_map, bytes_eq, refl, sym, ap, ap₂, ◌∙◌}
 use Rattle.std.specs.List.{filter, find, list_any}
-use Rattle.std.specs.Prelude.{is_some}
 use Rattle.std.proofs.lemmas.Slice.Eq.{bytes_eq-Decides}
 use Rattle.ftn_tree.specs.declared.mention.Role.{Role}
 use Rattle.ftn_tree.specs.declared.mention.Role.TheVariants as role

@@ -1,5 +1,5 @@
 -- Drafts of units stand for what the definition drafts, one more unit at a time.
-use Rattle.std.proofs.Common.{◌≡◌, ℕ, ◌+◌, ◌<◌, Bool, true, false, not, cond, List, [], ◌∷◌, ◌++◌, map, take, length, get_or, append_assoc, Option, Some, None, option_map, refl, sym, ap, ap₂, ◌∙◌}
+use Rattle.std.proofs.Common.{◌≡◌, ℕ, ◌+◌, Bool, true, false, cond, List, [], ◌∷◌, ◌++◌, map, take, append_assoc, Option, Some, None, option_map, refl, sym, ap, ap₂, ◌∙◌}
 use Rattle.std.specs.List.{filter}
 use Rattle.std.specs.Prelude.{slice_get}
 use Rattle.std.specs.Option.{option_map_or, unwrap_or}
@@ -10,7 +10,7 @@ use Rattle.ftn_tree.specs.declared.unit.FileTree.{FileTree}
 use Rattle.ftn_tree.specs.Extents.{layer_at}
 use Rattle.ftn_tree.specs.Scopes.{name_at, name_token, first_token_at, scope_number, host_number}
 use Rattle.ftn_tree.specs.GlobalNames.{place}
-use Rattle.ftn_tree.specs.DeclaredEntities.{Drafted, drafted, draft_unit, unit_kind_at, is_untyped_at}
+use Rattle.ftn_tree.specs.DeclaredEntities.{drafted, draft_unit, unit_kind_at, is_untyped_at}
 use Rattle.decl_table.specs.declared.draft.Draft.{Draft}
 use Rattle.decl_table.specs.steps.Drafts.{drafted_of}
 use Rattle.decl_table.specs.steps.UnitDrafts.{draft_by}

@@ -1,5 +1,5 @@
 -- Drafts of the names that a scoping unit declares, by what is heard of them.
-use Rattle.std.specs.Prelude.{ℕ, Bool, false, not, ◌&&◌, if◌then◌else◌, List, [], ◌∷◌, Option, Some, None}
+use Rattle.std.specs.Prelude.{ℕ, false, not, ◌&&◌, if◌then◌else◌, List, [], ◌∷◌, Option, Some, None}
 use Rattle.std.specs.List.{cons_option, filter}
 use Rattle.std.specs.Option.{option_map, unwrap_or}
 use Rattle.ftn_tree.specs.declared.mention.Mention.{Mention}

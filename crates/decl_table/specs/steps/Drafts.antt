@@ -1,5 +1,5 @@
 -- Drafts of entities, by tokens.
-use Rattle.std.specs.Prelude.{ℕ, Bool, not, ◌&&◌, ◌||◌, List, Option}
+use Rattle.std.specs.Prelude.{Bool, not, ◌&&◌, ◌||◌, List}
 use Rattle.std.specs.Option.{option_map}
 use Rattle.ftn_tree.specs.declared.unit.FileTree.{FileTree}
 use Rattle.ftn_tree.specs.Scopes.{name_at}

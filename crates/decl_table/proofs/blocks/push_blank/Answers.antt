@@ -3,7 +3,7 @@ use Rattle.ftn_tree.specs.declared.table.Extent.{Extent}
 use Rattle.ftn_tree.specs.DeclaredEntities.{draft_blank}
 use Rattle.decl_table.specs.steps.Blanks.{blanks_of}
 use Rattle.decl_table.specs.steps.Blocks.{block_as}
-use Rattle.decl_table.proofs.Blanks.{blank_later, blank_here, with_blank, without_blank}
+use Rattle.decl_table.proofs.Blanks.{blank_later, blank_here, with_blank}
 use Rattle.decl_table.proofs.NameTurns.{opened_or}
 use Rattle.decl_table.proofs.blocks.push_blank.Goals as goal
 

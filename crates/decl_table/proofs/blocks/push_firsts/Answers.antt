@@ -1,4 +1,4 @@
-use Rattle.std.proofs.Common.{ap, ap₂, not, ◌+◌, ◌∙◌, ◌||◌, ◌++◌, ◌∷◌, [], map, bytes_eq, drop, get_or}
+use Rattle.std.proofs.Common.{ap, ap₂, not, ◌+◌, ◌∙◌, ◌||◌, ◌++◌, ◌∷◌, map, bytes_eq, drop, get_or}
 use Rattle.ftn_tree.specs.DeclaredEntities.{draft_block}
 use Rattle.ftn_tree.specs.Scopes.{name_at}
 use Rattle.ftn_tree.specs.GlobalNames.{firsts_after}

@@ -1,9 +1,9 @@
-use Rattle.std.proofs.Common.{ap, ap₂, not, ◌+◌, ◌∙◌, ◌||◌, ◌++◌, ◌∷◌, [], bytes_eq, drop}
+use Rattle.std.proofs.Common.{ap, ap₂, not, ◌+◌, ◌∙◌, ◌||◌, ◌++◌, ◌∷◌, bytes_eq, drop}
 use Rattle.ftn_tree.specs.Sayings.{Saying}
 use Rattle.decl_table.specs.steps.DeclaredNames.{drafts_by}
 use Rattle.decl_table.specs.steps.Heard.{heard_in}
 use Rattle.decl_table.specs.steps.Noted.{noted_in}
-use Rattle.decl_table.specs.steps.Seen.{has_come, is_among}
+use Rattle.decl_table.specs.steps.Seen.{is_among}
 use Rattle.decl_table.proofs.NameTurns.{opened_at, same_names, is_there, not_there, later_turn, first_turn}
 use Rattle.decl_table.proofs.declared_names.push_names.Goals as goal
 use Rattle.decl_table.proofs.declared_names.push_names.Goals.{then-branch+in_ok-push_if, else-branch}

@@ -1,5 +1,4 @@
 use Rattle.std.proofs.Common.{ap, sym, cond, bytes_eq, ◌∙◌, arith, drop}
-use Rattle.ftn_tree.specs.declared.mention.Mention.{Mention}
 use Rattle.decl_table.specs.steps.Noted.{noted_of, noted_in}
 use Rattle.decl_table.proofs.HeardNames.{opened_before, at_start}
 use Rattle.decl_table.proofs.NotedNames.{noted_next}
