@@ -1,5 +1,5 @@
 -- What rows say of all extents: which one is around each, and which number it has.
-use Rattle.std.proofs.Common.{◌≡◌, ℕ, zero, suc, ◌+◌, ◌≤◌, ◌<◌, ◌^◌, Bool, true, false, not, List, [], ◌∷◌, ◌++◌, length, Option, Some, None, map, refl, sym, ap, ◌∙◌, subst, arith, append_assoc, length-append, if◌then◌else◌}
+use Rattle.std.proofs.Common.{◌≡◌, ℕ, zero, suc, ◌+◌, ◌≤◌, ◌<◌, ◌^◌, Bool, true, false, not, List, [], ◌∷◌, ◌++◌, length, Option, Some, None, map, refl, sym, ap, ◌∙◌, subst, arith, append_assoc, length-append}
 use Rattle.std.specs.Prelude.{slice_get, count_by}
 use Rattle.std.specs.List.{filter, position, flat_map, sum_by}
 use Rattle.std.proofs.lemmas.List.{map-id}
@@ -10,9 +10,9 @@ use Rattle.ftn_tree.specs.declared.unit.FileTree.{FileTree}
 use Rattle.ftn_tree.specs.Extents.{covers, encloses, same_extent, innermost, extents, extents_from, extents_in, scoping, scope_of, is_body, is_interface, is_some_interface}
 use Rattle.ftn_tree.specs.Scopes.{host_number, scope_number}
 use Rattle.ftn_tree.specs.Projects.{AreTrees, IsSomeTree}
-use Rattle.decl_table.specs.Located.{is_interface_number}
-use Rattle.decl_table.specs.Rows.{Row, number_at, with_extent, rows_after, around_after, empty_rows, around_of, rows_of}
-use Rattle.decl_table.proofs.Order.{Each, Comes, Within, Ordered, statements_in, extents_ordered, ordered_filter, each_of, tree_rises}
+use Rattle.decl_table.specs.steps.Located.{is_interface_number}
+use Rattle.decl_table.specs.steps.Rows.{Row, number_at, with_extent, rows_after, around_after, empty_rows, around_of, rows_of}
+use Rattle.decl_table.proofs.Order.{Each, Ordered, statements_in, extents_ordered, ordered_filter, each_of, tree_rises}
 use Rattle.decl_table.proofs.Rising.{Rise}
 use Rattle.decl_table.proofs.Numbers.{Stand, last_from, last_found, number_is}
 use Rattle.decl_table.proofs.Hosts.{before_it, after_it, stands_in_front, around_found, position_is}
@@ -26,7 +26,7 @@ rows_pushed number (p ∷ pre) e rows = ap (λ n. with_extent e n (rows_after (n
   next number n = omega arith
 
 module _ (files : List FileTree) (A : Type 0) (gives : Option ℕ → A) (wanted : Extent → A) (whole : List Extent)
-  (each : (pre : List Extent) (e : Extent) (post : List Extent) → whole ≡ pre ++ e ∷ post → gives (number_at (rows_after 0 pre (empty_rows files)) e.file e.opening) ≡ wanted e) where
+    (each : (pre : List Extent) (e : Extent) (post : List Extent) → whole ≡ pre ++ e ∷ post → gives (number_at (rows_after 0 pre (empty_rows files)) e.file e.opening) ≡ wanted e) where
   around_each : (pre post : List Extent) (number : ℕ) (rows : List Row) → whole ≡ pre ++ post → 0 + length pre ≡ number → rows_after 0 pre (empty_rows files) ≡ rows
       → map gives (around_after number post rows) ≡ map wanted post
   around_each pre [] number rows is long are = refl

@@ -1,13 +1,13 @@
 -- The scoping units around a scoping unit are those around its host, and the host.
-use Rattle.std.proofs.Common.{◌≡◌, ℕ, zero, suc, ◌+◌, ◌≤◌, ◌<◌, Bool, true, false, not, ◌&&◌, List, [], ◌∷◌, ◌++◌, length, Option, Some, None, map, refl, sym, ap, ◌∙◌, subst, inl, inr, arith, if◌then◌else◌, append_assoc}
-use Rattle.std.specs.Prelude.{◌==◌, nat_le, nat_lt, ◌⊎◌}
-use Rattle.std.specs.List.{filter, last_or, join_with_byte}
+use Rattle.std.proofs.Common.{◌≡◌, ℕ, ◌≤◌, ◌<◌, Bool, true, false, List, [], ◌∷◌, ◌++◌, Option, Some, None, refl, sym, ap, ◌∙◌, subst, inl, inr, arith, if◌then◌else◌, append_assoc}
+use Rattle.std.specs.Prelude.{◌⊎◌}
+use Rattle.std.specs.List.{filter, last_or}
 use Rattle.std.proofs.lemmas.Bool.Decides.{nat_tests}
 use Rattle.std.proofs.lemmas.List.Elements.{filter-append}
 use Rattle.ftn_tree.specs.declared.table.Extent.{Extent}
-use Rattle.ftn_tree.specs.Extents.{covers, encloses, innermost}
-use Rattle.decl_table.proofs.Order.{Each, Comes, Within, Ordered, each_both}
-use Rattle.decl_table.proofs.Hosts.{around_is, before_it, after_it}
+use Rattle.ftn_tree.specs.Extents.{covers}
+use Rattle.decl_table.proofs.Order.{Each, Comes, Ordered}
+use Rattle.decl_table.proofs.Hosts.{before_it, after_it}
 
 -- ---- the last that passes
 

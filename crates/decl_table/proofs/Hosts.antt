@@ -1,16 +1,16 @@
 -- Which extents are around an extent, and which number it has.
-use Rattle.std.proofs.Common.{◌≡◌, ℕ, zero, suc, ◌+◌, ◌≤◌, ◌<◌, Bool, true, false, not, ◌&&◌, List, [], ◌∷◌, ◌++◌, length, set, Option, Some, None, map, refl, sym, ap, ◌∙◌, subst, inl, inr, arith, if◌then◌else◌}
-use Rattle.std.specs.Prelude.{◌≢◌, ◌==◌, nat_le, nat_lt, slice_get, ◌⊎◌}
+use Rattle.std.proofs.Common.{◌≡◌, ℕ, zero, suc, ◌+◌, Bool, true, false, List, [], ◌∷◌, ◌++◌, length, Some, None, refl, sym, ap, ◌∙◌, inl, inr, arith, if◌then◌else◌}
+use Rattle.std.specs.Prelude.{slice_get}
 use Rattle.std.specs.List.{filter, last_or, position, position_from}
-use Rattle.std.specs.Option.{option_map_or, option_and_then}
+use Rattle.std.specs.Option.{option_and_then}
 use Rattle.std.proofs.lemmas.Bool.Decides.{nat_tests}
 use Rattle.std.proofs.lemmas.Iterator.Adapters.{position_from-zero}
 use Rattle.ftn_tree.specs.declared.table.Extent.{Extent}
 use Rattle.ftn_tree.specs.declared.unit.FileTree.{FileTree}
 use Rattle.ftn_tree.specs.Extents.{covers, encloses, same_extent, innermost}
-use Rattle.decl_table.specs.Rows.{Row, number_at, with_extent, rows_after, around_after, empty_rows, around_of}
+use Rattle.decl_table.specs.steps.Rows.{number_at, rows_after, empty_rows}
 use Rattle.decl_table.proofs.Order.{Each, Comes, Within, Ordered, statements_in}
-use Rattle.decl_table.proofs.Numbers.{Stand, last_from, last_found, number_is}
+use Rattle.decl_table.proofs.Numbers.{Stand, last_found, number_is}
 
 -- ---- what is around an extent
 

@@ -1,6 +1,6 @@
 -- The numbers in rows are those of the last extents that cover the statements.
-use Rattle.std.proofs.Common.{◌≡◌, ℕ, zero, suc, ◌+◌, ◌≤◌, ◌<◌, Bool, true, false, ◌&&◌, List, [], ◌∷◌, ◌++◌, length, set, Option, Some, None, map, refl, sym, ap, ◌∙◌, subst, inl, inr, arith, if◌then◌else◌}
-use Rattle.std.specs.Prelude.{◌≢◌, ◌==◌, nat_le, slice_get}
+use Rattle.std.proofs.Common.{◌≡◌, ℕ, zero, suc, ◌+◌, ◌<◌, Bool, true, false, ◌&&◌, List, [], ◌∷◌, length, set, Option, Some, None, refl, sym, ap, ◌∙◌, subst, inl, inr, arith, if◌then◌else◌}
+use Rattle.std.specs.Prelude.{nat_le, slice_get}
 use Rattle.std.specs.List.{filter, last_or}
 use Rattle.std.specs.Option.{option_map_or, option_and_then}
 use Rattle.std.proofs.lemmas.Bool.{cases_eq}
@@ -9,7 +9,7 @@ use Rattle.std.proofs.lemmas.Bool.Decides.{nat_tests}
 use Rattle.ftn_tree.specs.declared.table.Extent.{Extent}
 use Rattle.ftn_tree.specs.declared.unit.FileTree.{FileTree}
 use Rattle.ftn_tree.specs.Extents.{covers}
-use Rattle.decl_table.specs.Rows.{Row, number_in, number_at, painted_from, painted, unpainted, empty_rows, with_extent, rows_after}
+use Rattle.decl_table.specs.steps.Rows.{Row, number_in, number_at, painted_from, painted, unpainted, empty_rows, with_extent, rows_after}
 use Rattle.decl_table.proofs.Painting.{painted_long}
 use Rattle.decl_table.proofs.Order.{statements_in}
 
@@ -78,30 +78,30 @@ changed_at at file change rows same none = subst (λ f. row_at (changed at chang
 pub number_with : (e : Extent) (number : ℕ) (rows : List Row) (file statement : ℕ) → statement < length (row_at rows file)
     → number_at (with_extent e number rows) file statement ≡ (if covers file statement e then Some number else number_at rows file statement)
 number_with e number rows file statement less = elim (cases_eq e.file file) [
-    | inl same ↦
-        number_of_row (with_extent e number rows) file statement
-        ∙ ap (number_in statement) (changed_at e.file file (λ row. painted e.opening e.ending number row) rows same refl)
-        ∙ number_painted 0 e.opening e.ending number statement (row_at rows file) less
-        ∙ ap (λ k. if nat_le e.opening k && nat_le k e.ending then Some number else number_in statement (row_at rows file)) (zero_plus statement)
-        ∙ ap (λ test. if test then Some number else number_in statement (row_at rows file)) (sym (same_file e file statement same))
-        ∙ ap (λ here. if covers file statement e then Some number else here) (sym (number_of_row rows file statement))
-    | inr apart ↦
-        number_of_row (with_extent e number rows) file statement
-        ∙ ap (number_in statement) (changed_other e.file file (λ row. painted e.opening e.ending number row) rows apart)
-        ∙ sym (number_of_row rows file statement)
-        ∙ ap (λ test. if test then Some number else number_at rows file statement) (sym (other_file e file statement apart))
-  ]
+  | inl same ↦
+      number_of_row (with_extent e number rows) file statement
+      ∙ ap (number_in statement) (changed_at e.file file (λ row. painted e.opening e.ending number row) rows same refl)
+      ∙ number_painted 0 e.opening e.ending number statement (row_at rows file) less
+      ∙ ap (λ k. if nat_le e.opening k && nat_le k e.ending then Some number else number_in statement (row_at rows file)) (zero_plus statement)
+      ∙ ap (λ test. if test then Some number else number_in statement (row_at rows file)) (sym (same_file e file statement same))
+      ∙ ap (λ here. if covers file statement e then Some number else here) (sym (number_of_row rows file statement))
+  | inr apart ↦
+      number_of_row (with_extent e number rows) file statement
+      ∙ ap (number_in statement) (changed_other e.file file (λ row. painted e.opening e.ending number row) rows apart)
+      ∙ sym (number_of_row rows file statement)
+      ∙ ap (λ test. if test then Some number else number_at rows file statement) (sym (other_file e file statement apart))
+]
   where
     zero_plus : (k : ℕ) → 0 + k ≡ k
     zero_plus k = omega arith
 
 pub row_long : (e : Extent) (number : ℕ) (rows : List Row) (file : ℕ) → length (row_at (with_extent e number rows) file) ≡ length (row_at rows file)
 row_long e number rows file = elim (cases_eq e.file file) [
-    | inl same ↦
-        ap length (changed_at e.file file (λ row. painted e.opening e.ending number row) rows same refl)
-        ∙ painted_long 0 e.opening e.ending number (row_at rows file)
-    | inr apart ↦ ap length (changed_other e.file file (λ row. painted e.opening e.ending number row) rows apart)
-  ]
+  | inl same ↦
+      ap length (changed_at e.file file (λ row. painted e.opening e.ending number row) rows same refl)
+      ∙ painted_long 0 e.opening e.ending number (row_at rows file)
+  | inr apart ↦ ap length (changed_other e.file file (λ row. painted e.opening e.ending number row) rows apart)
+]
 
 -- ---- all extents
 

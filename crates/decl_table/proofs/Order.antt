@@ -1,15 +1,12 @@
 -- The extents of a project come in the order of files and openings, they stand within their files, and two of one file are one in the
 -- other or apart.
-use Rattle.std.proofs.Common.{◌≡◌, ℕ, zero, suc, ◌+◌, ◌≤◌, ◌<◌, Bool, true, false, List, [], ◌∷◌, ◌++◌, length, map, refl, sym, ap, ◌∙◌, subst, inl, inr, arith}
+use Rattle.std.proofs.Common.{◌≡◌, ℕ, suc, ◌+◌, ◌<◌, Bool, true, false, List, [], ◌∷◌, ◌++◌, length, refl, sym, ap, ◌∙◌, subst, inl, inr, arith}
 use Rattle.std.specs.Prelude.{◌⊎◌, slice_get}
 use Rattle.std.specs.List.{flat_map, filter, All}
 use Rattle.std.specs.Option.{option_map_or}
-use Rattle.std.proofs.lemmas.List.{length-map}
-use Rattle.ftn_tree.specs.declared.mark.Mark.{Mark}
 use Rattle.ftn_tree.specs.declared.table.Extent.{Extent}
 use Rattle.ftn_tree.specs.declared.unit.FileTree.{FileTree}
 use Rattle.ftn_tree.specs.declared.unit.Statement.{Statement}
-use Rattle.ftn_tree.specs.declared.unit.Unit.{Unit as UnitTree}
 use Rattle.ftn_tree.specs.Nesting.{Nested, held, spelled}
 use Rattle.ftn_tree.specs.NestFaults.{marks_of}
 use Rattle.ftn_tree.specs.Projects.{IsSomeTree}
@@ -67,10 +64,11 @@ later_ones file low high e (f ∷ fs) same less (side, sides) (is, first, order,
 
 file_ordered : (count : ℕ → ℕ) (file low high : ℕ) (es : List Extent) → high ≡ count file → Rise file low high es → Ordered count es
 file_ordered count file low high [] long rise = tt
-file_ordered count file low high (e ∷ es) long (is, first, order, last, beside, more) =
-    ((order, subst (λ f. e.ending < count f) (sym is) (subst (λ n. e.ending < n) long last)),
-    later_ones file (e.opening + 1) high e es is (omega arith) beside more,
-    file_ordered count file (e.opening + 1) high es long more)
+file_ordered count file low high (e ∷ es) long (is, first, order, last, beside, more) = (
+  (order, subst (λ f. e.ending < count f) (sym is) (subst (λ n. e.ending < n) long last)),
+  later_ones file (e.opening + 1) high e es is (omega arith) beside more,
+  file_ordered count file (e.opening + 1) high es long more,
+)
 
 in_file : (file low high : ℕ) (es : List Extent) → Rise file low high es → Each (λ (e : Extent). e.file ≡ file) es
 in_file file low high [] rise = tt

@@ -1,8 +1,8 @@
 -- Rows that are painted from one statement to another.
-use Rattle.std.proofs.Common.{◌≡◌, ℕ, zero, suc, ◌+◌, ◌≤◌, ◌<◌, Bool, true, false, ◌&&◌, List, [], ◌∷◌, length, get_or, set, Option, Some, None, refl, sym, ap, ◌∙◌, inl, inr, arith, if◌then◌else◌}
-use Rattle.std.specs.Prelude.{nat_le, slice_get, ◌⊎◌}
+use Rattle.std.proofs.Common.{◌≡◌, ℕ, zero, suc, ◌+◌, ◌≤◌, ◌<◌, Bool, true, false, ◌&&◌, [], ◌∷◌, length, set, Option, Some, refl, ap, inl, inr, arith, if◌then◌else◌}
+use Rattle.std.specs.Prelude.{nat_le, ◌⊎◌}
 use Rattle.std.proofs.lemmas.Bool.Decides.{nat_tests}
-use Rattle.decl_table.specs.Rows.{Row, painted_from}
+use Rattle.decl_table.specs.steps.Rows.{Row, painted_from}
 
 below : (low at ending : ℕ) → at < low → (nat_le low at && nat_le at ending) ≡ false
 below low at ending less = grind (arith, nat_tests)

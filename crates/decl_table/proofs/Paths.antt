@@ -1,5 +1,5 @@
 -- The path and the letters of a scoping unit by those of its host.
-use Rattle.std.proofs.Common.{◌≡◌, ℕ, zero, suc, ◌+◌, ◌≤◌, ◌<◌, Bool, true, false, List, [], ◌∷◌, ◌++◌, length, Option, Some, None, map, fold, refl, sym, ap, ◌∙◌, subst, inl, inr, arith, append_assoc}
+use Rattle.std.proofs.Common.{◌≡◌, ℕ, List, [], ◌∷◌, ◌++◌, length, Option, Some, None, map, fold, refl, sym, ap, ◌∙◌, subst, inl, inr, append_assoc}
 use Rattle.std.specs.Prelude.{slice_get, ◌⊎◌}
 use Rattle.std.specs.List.{filter, last_or, join_with_byte, position}
 use Rattle.std.specs.Option.{option_and_then, option_map_or, option_map}
@@ -13,8 +13,8 @@ use Rattle.ftn_tree.specs.Extents.{covers, encloses, same_extent, innermost, sco
 use Rattle.ftn_tree.specs.Scopes.{host_number, scope_number, chain, scope_name, path_of}
 use Rattle.ftn_tree.specs.ScopeLetters.{after_own, entries_of}
 use Rattle.ftn_tree.specs.Projects.{AreTrees}
-use Rattle.decl_table.specs.Numbered.{path_by, entries_by}
-use Rattle.decl_table.proofs.Order.{Each, Comes, Ordered, statements_in}
+use Rattle.decl_table.specs.steps.Following.{path_by, entries_by}
+use Rattle.decl_table.proofs.Order.{Ordered, statements_in}
 use Rattle.decl_table.proofs.Hosts.{around_is, before_it, after_it, position_is}
 use Rattle.decl_table.proofs.Chains.{Split, none_of, last_split, chain_is, host_chain}
 use Rattle.decl_table.proofs.Arounds.{ordered_units}
@@ -53,12 +53,16 @@ host_case files are pre e post split = by (last_or None (filter (covers e.file e
       let whole : scoping files ≡ a ++ h ∷ (b ++ e ∷ post) = split ∙ ap (λ (xs : List Extent). xs ++ e ∷ post) is ∙ append_assoc a (h ∷ b) (e ∷ post) in
       let around : Ordered count (a ++ h ∷ (b ++ e ∷ post)) = subst (Ordered count) whole (ordered_units files are) in
       let number : scope_number files h ≡ Some (length a) =
-      ap (position (same_extent h)) whole ∙ position_is a h (b ++ e ∷ post) (before_it count a h (b ++ e ∷ post) around) in
-      (h, length a, filter (covers h.file h.opening) a, ap (option_and_then (scope_number files)) found ∙ number,
-      ap (λ (xs : List Extent). slice_get xs (length a)) is ∙ at_place a h b,
-      ap (filter (covers h.file h.opening)) whole ∙ chain_is count a h (b ++ e ∷ post) around,
-      its_chain ∙ ap (λ (xs : List Extent). xs ++ e ∷ [])
-      (host_chain count pre e post h ordered (a, b, is, passes, none) ∙ ap (filter (covers h.file h.opening)) (sym split)))
+      ap (position (same_extent h)) whole ∙ position_is a h (b ++ e ∷ post) (before_it count a h (b ++ e ∷ post) around) in (
+        h,
+        length a,
+        filter (covers h.file h.opening) a,
+        ap (option_and_then (scope_number files)) found ∙ number,
+        ap (λ (xs : List Extent). slice_get xs (length a)) is ∙ at_place a h b,
+        ap (filter (covers h.file h.opening)) whole ∙ chain_is count a h (b ++ e ∷ post) around,
+        its_chain ∙ ap (λ (xs : List Extent). xs ++ e ∷ [])
+            (host_chain count pre e post h ordered (a, b, is, passes, none) ∙ ap (filter (covers h.file h.opening)) (sym split)),
+      )
 
   chosen : (h : Extent) → host_of files e ≡ Some h → ((None ≡ Some h) × (filter (covers e.file e.opening) pre ≡ [])) ⊎ Split (covers e.file e.opening) pre h → HasHost files pre e
   chosen h found (inl (is, none)) = absurd (cc is)

@@ -1,11 +1,10 @@
 -- The extents of a file come in the order of their openings, and each ends before a later one begins or after it ends.
-use Rattle.std.proofs.Common.{◌≡◌, ℕ, ◌+◌, ◌≤◌, ◌<◌, Bool, true, false, List, [], ◌∷◌, ◌++◌, length, refl, sym, ap, ◌∙◌, subst, inl, inr, arith, length-append, if◌then◌else◌}
+use Rattle.std.proofs.Common.{◌≡◌, ℕ, ◌+◌, ◌≤◌, ◌<◌, Bool, true, false, List, [], ◌∷◌, ◌++◌, length, refl, sym, subst, inl, inr, arith, length-append, if◌then◌else◌}
 use Rattle.std.specs.Prelude.{◌⊎◌}
 use Rattle.std.specs.List.{flat_map}
 use Rattle.ftn_tree.specs.declared.mark.Mark.{Mark}
 use Rattle.ftn_tree.specs.declared.mark.Title.{Title}
 use Rattle.ftn_tree.specs.declared.table.Extent.{Extent}
-use Rattle.ftn_tree.specs.declared.unit.Unit.{Unit as UnitTree}
 use Rattle.ftn_tree.specs.declared.unit.Block.TheVariants.{Plain, Nest}
 use Rattle.ftn_tree.specs.Marks.{is_construct, begins_arm}
 use Rattle.ftn_tree.specs.Nesting.{Row, none, stands, nest, spelled, Held, held, with_statement, with_nest, unit, arm, arms_of}
@@ -70,11 +69,15 @@ stood file at m after = by (begins_arm m) where
 opened : (file low ending high : ℕ) (inner rest : List Extent) → low < ending → Rise file (low + 1) ending inner → Rise file (ending + 1) high rest
     → Rise file low high ((own file low ending ∷ inner) ++ rest)
 opened file low ending high inner rest order within after =
-    let end : ending + 1 ≤ high = reaches file (ending + 1) high rest after in
-    (refl, omega arith, order, omega arith,
-    beside_both (own file low ending) inner rest (beside_inside file (low + 1) ending (own file low ending) inner (omega arith) within)
-    (beside_after file (ending + 1) high (own file low ending) rest (omega arith) after),
-    rise_both file (low + 1) (ending + 1) high inner rest (higher file (low + 1) ending (ending + 1) inner (omega arith) within) after)
+    let end : ending + 1 ≤ high = reaches file (ending + 1) high rest after in (
+      refl,
+      omega arith,
+      order,
+      omega arith,
+      beside_both (own file low ending) inner rest (beside_inside file (low + 1) ending (own file low ending) inner (omega arith) within)
+          (beside_after file (ending + 1) high (own file low ending) rest (omega arith) after),
+      rise_both file (low + 1) (ending + 1) high inner rest (higher file (low + 1) ending (ending + 1) inner (omega arith) within) after,
+    )
 
 nested : (file at ending high : ℕ) (what : Title) (inside after : Held) → at < ending → Rise file (at + 1) ending (all_in file inside) → Rise file (ending + 1) high (all_in file after)
     → Rise file at high (all_in file (with_nest at what inside ending after))

@@ -1,4 +1,1 @@
-pub mod Rows
-pub mod Located
-pub mod Numbered
 pub mod steps

@@ -5,7 +5,7 @@ ghost use Rattle.ftn_tree.specs.DeclaredEntities as spec;
 ghost use Rattle.ftn_tree.specs.Extents.{scoping as scoping_of};
 ghost use Rattle.ftn_tree.specs.Projects.{AreTrees};
 ghost use Rattle.ftn_tree.specs.Sayings.{sayings};
-ghost use Rattle.decl_table.specs.Located.{IsScoping};
+ghost use Rattle.decl_table.specs.steps.Located.{IsScoping};
 ghost use Rattle.decl_table.specs.steps.Drafts.{drafted_of};
 
 use crate::blocks::{push_blank, push_blocks};

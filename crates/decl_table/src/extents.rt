@@ -2,6 +2,7 @@
 
 ghost use Rattle.std.specs.Prelude.{◌≡◌, ◌≤◌, ◌++◌, length, OnOk, IfOk};
 ghost use Rattle.std.specs.List.{flat_map};
+ghost use Rattle.ftn_base.specs.Limits.{most_files};
 ghost use Rattle.ftn_tree.specs.Extents as spec;
 
 use ftn_base::NoMemory;
@@ -35,7 +36,7 @@ fn push_units(file: u32, units: &[Unit], found: &mut Vec<Extent>) -> Result<(), 
 
 /// All of a project, in the order of their openings.
 pub(crate) fn extents(alloc: Global, files: &[FileTree]) -> Result<Vec<Extent>, NoMemory>
-    requires { length files.now ≤ 4096 }
+    requires { length files.now ≤ most_files }
     ensures { IfOk result (λ found. found.items ≡ spec.extents files.now) }
 {
     let mut found = Vec::new(alloc);

@@ -1,9 +1,10 @@
-//! Declarations (Fortran 90, 5, 12.5.2, 14.1.2): the scoping units of a project, the first fault that the names of a scoping unit give,
-//! and declared entities.
+//! Scoping units and declarations (Fortran 90, 5, 12.5.2, 14.1.1, 14.1.2).
 //!
-//! `first_of_names` gives exactly the first fault that is defined, or none where there is none. To be trusted are `Exclusions`,
-//! `Sayings` and `DeclarationFaults` of `ftn_tree`; `steps` serves proofs alone. It isn't said how long a call takes: with a look-up
-//! by name and a fixed number of tests for each mention of a name.
+//! `scope_table` gives the scoping units of a project as they are defined, each with its kind, path, host and letters.
+//! `declaration_fault` gives exactly the first fault of a project's declarations, or none where there is none. To be trusted are
+//! `Extents`, `Scopes`, `ScopeLetters`, `Sayings`, `Exclusions`, `GlobalNames`, `DeclarationFaults`, `Projects`, and of
+//! `DeclaredEntities` the entry of a scoping unit, all of `ftn_tree`; `specs/steps` serves proofs alone. It isn't said how long a call
+//! takes: about in line with statements and names, where scoping units nest as deep as they may.
 #![tactic(auto)]
 
 mod block_names;
@@ -13,11 +14,15 @@ mod draft;
 mod draft_order;
 mod drafts;
 mod extents;
+mod faults;
 mod finding;
 mod firsts;
 mod forms;
+mod global_names;
+mod globals;
 mod heard;
 mod known_names;
+mod letters;
 mod name_drafts;
 mod names;
 mod noted;
@@ -26,10 +31,13 @@ mod program_units;
 mod rows;
 mod rules;
 mod saying;
+mod sayings;
+mod scope_faults;
+mod scopes;
 mod scoping;
 mod seen;
+mod statements;
 mod unit_drafts;
 
-pub use finding::{Finding, Place};
-pub use names::first_of_names;
-pub use saying::Saying;
+pub use faults::declaration_fault;
+pub use scopes::scope_table;

@@ -6,7 +6,7 @@ ghost use Rattle.ftn_tree.specs.DeclaredEntities.{drafts_in, own_mentions};
 ghost use Rattle.ftn_tree.specs.Extents.{scoping as scoping_of};
 ghost use Rattle.ftn_tree.specs.Projects.{AreTrees};
 ghost use Rattle.ftn_tree.specs.Sayings.{sayings};
-ghost use Rattle.decl_table.specs.Located.{IsScoping};
+ghost use Rattle.decl_table.specs.steps.Located.{IsScoping};
 ghost use Rattle.decl_table.specs.steps.Drafts.{drafted_of};
 
 use crate::declared_names::push_declared;

@@ -15,7 +15,8 @@ use ftn_tree::ScopeKind;
 use indexmap::IndexMap;
 use std::alloc::Global;
 
-fn is_module(kind: ScopeKind) -> bool
+/// Whether it is a module.
+pub(crate) fn is_module(kind: ScopeKind) -> bool
     ensures { result ≡ spec.is_module kind }
 {
     matches!(kind, ScopeKind::Module)

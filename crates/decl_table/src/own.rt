@@ -1,11 +1,7 @@
 //! The statements that stand in a scoping unit and in no other one inside it.
 
-ghost use Rattle.std.specs.Prelude.{◌≡◌, Some, slice_get, IfOk};
-ghost use Rattle.ftn_tree.specs.Extents.{scoping};
-ghost use Rattle.ftn_tree.specs.Projects.{AreTrees};
-ghost use Rattle.ftn_tree.specs.Scopes as scopes;
-ghost use Rattle.decl_table.specs.Located.{IsScoping};
-ghost use Rattle.decl_table.specs.Numbered as spec;
+ghost use Rattle.std.specs.Prelude.{◌≡◌, ◌++◌, IfOk, OnOk};
+ghost use Rattle.decl_table.specs.steps.Following as spec;
 
 use crate::rows::{Row, number_at};
 use ftn_base::NoMemory;
@@ -13,13 +9,29 @@ use ftn_tree::Extent;
 use std::alloc::Global;
 
 /// Whether it is that number.
-fn is_number(number: u32, found: Option<u32>) -> bool
+pub(crate) fn is_number(number: u32, found: Option<u32>) -> bool
     ensures { result ≡ spec.is_number number found }
 {
     match found {
         Some(found) => found == number,
         None => false,
     }
+}
+
+/// Adds the statement where it has that number.
+fn push_own(
+    rows: &[Row],
+    file: u32,
+    number: u32,
+    statement: u32,
+    own: &mut Vec<u32>,
+) -> Result<(), NoMemory>
+    ensures { OnOk result (own.new.items ≡ own.old.items ++ spec.own_at number file rows.now statement) }
+{
+    if is_number(number, number_at(rows, file, statement)) {
+        own.push(statement)?;
+    }
+    Ok(())
 }
 
 /// The statements from its opening to its ending that have its number.
@@ -34,10 +46,7 @@ pub(crate) fn own_statements(
     let mut own = Vec::new(alloc);
     let opening = unit.opening as usize;
     for at in opening..unit.ending as usize + 1 {
-        let statement = at as u32;
-        if is_number(number, number_at(rows, unit.file, statement)) {
-            own.push(statement)?;
-        }
+        push_own(rows, unit.file, number, at as u32, &mut own)?;
     }
     Ok(own)
 }

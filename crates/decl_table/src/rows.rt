@@ -1,7 +1,7 @@
 //! For each statement of a project the number of the last of some extents that cover it.
 
 ghost use Rattle.std.specs.Prelude.{◌≡◌, ◌<◌, ◌^◌, length, IfOk};
-ghost use Rattle.decl_table.specs.Rows as spec;
+ghost use Rattle.decl_table.specs.steps.Rows as spec;
 
 use ftn_base::NoMemory;
 use ftn_tree::{Extent, FileTree};

@@ -1,12 +1,12 @@
 //! The scoping units of a project.
 
-ghost use Rattle.std.specs.Prelude.{◌≡◌, ◌<◌, ◌≤◌, ◌^◌, length, map, IfOk};
+ghost use Rattle.std.specs.Prelude.{◌≡◌, ◌<◌, length, map, slice_get, Some, IfOk};
 ghost use Rattle.std.specs.List.{filter};
 ghost use Rattle.ftn_tree.specs.Extents as spec;
 ghost use Rattle.ftn_tree.specs.Scopes as scopes;
 ghost use Rattle.ftn_tree.specs.Projects.{AreTrees};
-ghost use Rattle.decl_table.specs.Located.{IsScoping, is_interface_number};
-ghost use Rattle.decl_table.specs.Rows as rows;
+ghost use Rattle.decl_table.specs.steps.Located.{IsScoping, is_interface_number};
+ghost use Rattle.decl_table.specs.steps.Rows as rows;
 
 use crate::extents::extents;
 use crate::forms::{form_at, is_interface, name_at, name_token};
@@ -124,4 +124,23 @@ pub(crate) fn scope_name(files: &[FileTree], unit: Extent) -> &[u8]
         Some(token) => name_at(files, unit.file, token),
         None => b"%blockdata",
     }
+}
+
+/// The scoping unit of that number, whether it is an interface body, and the number of its host.
+pub(crate) fn unit_at(
+    files: &[FileTree],
+    scoping: &Scoping,
+    number: u32,
+) -> (Extent, bool, Option<u32>)
+    requires known { IsScoping files.now scoping.now }
+    requires within { number < length (spec.scoping files.now) }
+    ensures unit { slice_get (spec.scoping files.now) number ≡ Some result.0 }
+    ensures body { result.1 ≡ spec.is_body files.now result.0 }
+    ensures host { result.2 ≡ scopes.host_number files.now result.0 }
+{
+    (
+        scoping.units[number as usize],
+        scoping.bodies[number as usize],
+        scoping.hosts[number as usize],
+    )
 }

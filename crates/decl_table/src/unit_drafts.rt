@@ -6,7 +6,7 @@ ghost use Rattle.ftn_tree.specs.DeclaredEntities as spec;
 ghost use Rattle.ftn_tree.specs.Extents.{is_body, layer_at, scoping as scoping_of};
 ghost use Rattle.ftn_tree.specs.Projects.{AreTrees};
 ghost use Rattle.ftn_tree.specs.Sayings.{same_name, sayings, typed};
-ghost use Rattle.decl_table.specs.Located.{IsScoping};
+ghost use Rattle.decl_table.specs.steps.Located.{IsScoping};
 ghost use Rattle.decl_table.specs.steps.Drafts.{drafted_of};
 ghost use Rattle.decl_table.specs.steps.UnitDrafts as steps;
 

@@ -4,11 +4,9 @@ use crate::comparing::compare_texts;
 use crate::fault::RowFault;
 use crate::parts::Part;
 use free_scan::first_form::{FirstForm, read_first_form};
+use ftn_base::MOST_FIRST_FORM_BYTES;
 use rename_ref::first_meaning::{Outcome, Ran, RunFault, run};
 use std::alloc::Global;
-
-/// How many bytes a program may have.
-const MOST: usize = 65_536;
 
 /// A program, and what is wanted of its runs.
 #[derive(Drop)]
@@ -65,7 +63,7 @@ impl Runs {
 
     /// The program, where its text is one.
     fn form(&self, alloc: Global) -> Result<Option<FirstForm>, RowFault> {
-        if self.text.len() > MOST {
+        if self.text.len() > MOST_FIRST_FORM_BYTES as usize {
             return Ok(None);
         }
         Ok(read_first_form(alloc, &self.text)?)

@@ -2,11 +2,9 @@
 use Rattle.std.proofs.Common.{◌≡◌, ◌≢◌, ℕ, ◌+◌, ◌<◌, ◌≤◌, Option, Some, None, List, [], ◌∷◌, ◌++◌, length, get_or, take, drop, set, All, inl, inr, sym, ◌∙◌, subst, subst₂, ap, arith, length-set}
 use Rattle.std.proofs.lemmas.Bool.{cases_eq, cases_lt}
 use Rattle.std.proofs.lemmas.List.{get_or-set_other, get_or-set_same, get_or_append_left, get_or_push, length_push}
+use Rattle.std.proofs.lemmas.Option.{same_Some}
 use Rattle.equiv_class.specs.steps.Numbers.{IsCounted, IsNumbered, IsNumbering, number_at}
 use Rattle.equiv_class.proofs.Relabels.{written_back}
-
-injective : (a b : ℕ) → Some a ≡ Some b → a ≡ b
-injective a b e = cc
 
 clash : (a : ℕ) → Some a ≡ None → ⊥
 clash a e = cc
@@ -110,7 +108,7 @@ module _ (label : List ℕ) (count : ℕ) (numbers : List (Option ℕ)) (class o
     get_back : (one n : ℕ) → number_at next_numbers one ≡ Some n → (n < length next_order) × (get_or next_order n 0 ≡ one)
     get_back one n told = elim (cases_eq one this) [
       | inl e ↦
-          let same : number ≡ n = injective number n (sym number_here ∙ ap (λ (k : ℕ). number_at next_numbers k) (sym e) ∙ told) in
+          let same : number ≡ n = same_Some number n (sym number_here ∙ ap (λ (k : ℕ). number_at next_numbers k) (sym e) ∙ told) in
           let size = length_push order this in
           ((omega arith), ap (λ (k : ℕ). get_or next_order k 0) (sym same) ∙ order_here ∙ sym e)
       | inr ne ↦
@@ -150,7 +148,7 @@ numbered_whole label count numbers class order e n =
     record {
       counted = n.counted ∙ e;
       few = let le = n.few in omega arith;
-      same = λ one other lt_one lt_other same. injective (get_or class one 0) (get_or class other 0) (sym (n.told one (all one lt_one)) ∙ ap (λ (k : ℕ). number_at numbers k) same ∙ n.told other (all other lt_other));
+      same = λ one other lt_one lt_other same. same_Some (get_or class one 0) (get_or class other 0) (sym (n.told one (all one lt_one)) ∙ ap (λ (k : ℕ). number_at numbers k) same ∙ n.told other (all other lt_other));
       known = λ v lt. (n.back (get_or label v 0) (get_or class v 0) (n.told v (all v lt))).0;
       back = λ v lt. (n.back (get_or label v 0) (get_or class v 0) (n.told v (all v lt))).1;
       rising = λ v number lt less. n.rising v number (all v lt) less;

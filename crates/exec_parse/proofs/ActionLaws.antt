@@ -18,15 +18,15 @@ use Rattle.ftn_tree.specs.Lexemes.{same_lexeme}
 use Rattle.ftn_tree.specs.Phrases.{Phrase, ◌·◌, word, mark, name, maybe, never, in_parens, commas_or_none, after_commas}
 use Rattle.ftn_tree.specs.Grammar.{expr, reference}
 use Rattle.ftn_tree.specs.ExecutableForms.{assignment, stop_code, after_stars, output, input, action_at}
-use Rattle.expr_parse.specs.Input as reading
-use Rattle.expr_parse.specs.Input.{Input, Reader, Outcome, peek_second, first_lexeme}
+use Rattle.expr_parse.specs.steps.Input as reading
+use Rattle.expr_parse.specs.steps.Input.{Input, Reader, Outcome, peek_second, first_lexeme}
 use Rattle.expr_parse.proofs.Pieces.{Piece, Apart, seq, option}
 use Rattle.expr_parse.proofs.AllKinds.{apart, within}
 use Rattle.expr_parse.proofs.Tokens.{only, apart_none, word_piece, word_made, word_back, name_piece, after_word, after_mark}
 use Rattle.expr_parse.proofs.Ends.{unless_done}
 use Rattle.expr_parse.proofs.Operands.{opens, ReadsExpressions, expression_piece, ReadsReferences, reference_piece}
-use Rattle.exec_parse.specs.Actions as read
-use Rattle.exec_parse.specs.Lists as lists
+use Rattle.exec_parse.specs.steps.Actions as read
+use Rattle.exec_parse.specs.steps.Lists as lists
 use Rattle.exec_parse.proofs.Wholes.{Sound, Reads, either_way, all_sound, all_complete, made_sound, made_complete}
 use Rattle.exec_parse.proofs.Words.{Starts, starts_with, starts_alone, second_is, Rows, first_row, rows_sound, differ, picked, passed}
 use Rattle.exec_parse.proofs.ListPieces.{arguments_piece, items_after_comma, items_to_end, variables_after_comma, variables_to_end, stars_piece, code_piece}

@@ -1,6 +1,9 @@
 -- CASE statements are read as they are written.
-use Rattle.std.proofs.Common.{◌≡◌, refl, sym, ◌∙◌, ap, subst, ℕ, ◌+◌, Bool, true, false, not, ◌||◌, List, [], ◌∷◌, ◌++◌, length, drop, Option, Some, None, if◌then◌else◌, codes, append_assoc, arith, ◌⊎◌, inl, inr}
+use Rattle.std.proofs.Common.{◌≡◌, refl, sym, ◌∙◌, ap, subst, ℕ, ◌+◌, Bool, true, false, not, ◌||◌, List, [], ◌∷◌, ◌++◌, length, drop, Option, Some, None, if◌then◌else◌, codes, append_assoc, arith, ◌⊎◌, inl, inr, add-zero}
 use Rattle.std.proofs.lemmas.Grind.{common_steps}
+use Rattle.std.proofs.lemmas.Option.{some_pair_parts}
+use Rattle.std.proofs.lemmas.Bool.{not-true, not-false}
+use Rattle.std.proofs.lemmas.List.{append-nil}
 use denote.Hole.Carrier
 use Rattle.ftn_tree.specs.declared.token.Token.{Token}
 use Rattle.ftn_tree.specs.declared.expr.Expr.{Expr}
@@ -16,15 +19,15 @@ use Rattle.ftn_tree.specs.Lexemes.{lexeme_of, same_lexeme}
 use Rattle.ftn_tree.specs.Phrases.{Phrase, nothing, ◌·◌, word, word_at, mark, in_parens, commas}
 use Rattle.ftn_tree.specs.Grammar.{expr}
 use Rattle.ftn_tree.specs.ExecutableForms.{case_range, case_of, statement_at}
-use Rattle.expr_parse.specs.Input.{Input, input, Reader, Outcome, ◌>>=◌, ◌>>◌, pure, after, after_if, eat, sees, sees_word, expect_word, peek, first_lexeme}
-use Rattle.expr_parse.specs.Combinators.{◌<$>◌}
-use Rattle.expr_parse.specs.Reading.{expression}
-use Rattle.expr_parse.proofs.Pieces.{Piece, Took, Apart, begins, begins_after, bind_some, bind_is, some_pair, took_both, plus_none}
+use Rattle.expr_parse.specs.steps.Input.{Input, input, Reader, Outcome, ◌>>=◌, ◌>>◌, pure, after, after_if, eat, sees, sees_word, expect_word, peek, first_lexeme}
+use Rattle.expr_parse.specs.steps.Combinators.{◌<$>◌}
+use Rattle.expr_parse.specs.steps.Reading.{expression}
+use Rattle.expr_parse.proofs.Pieces.{Piece, Took, Apart, begins, begins_after, bind_some, bind_is, took_both}
 use Rattle.expr_parse.proofs.AllKinds.{apart, within}
 use Rattle.expr_parse.proofs.Tokens.{only, is_same, word_piece, word_made, word_back, parens}
 use Rattle.expr_parse.proofs.Lists.{list, took_mark}
 use Rattle.expr_parse.proofs.Operands.{starts, goes_on, ReadsExpressions, expression_piece}
-use Rattle.exec_parse.specs.Constructs as read
+use Rattle.exec_parse.specs.steps.Constructs as read
 use Rattle.exec_parse.proofs.Wholes.{Sound, Reads, either_way, all_sound, all_complete, made_sound, made_complete, made_here, then_sound, then_complete, took_all}
 use Rattle.exec_parse.proofs.Words.{starts_alone, sees_own, took_word, open_no_word}
 
@@ -72,27 +75,19 @@ ends_told = within ends (λ kind. read.ends_range (Some kind)) refl
 starts_told : (kind : Lexeme) → starts kind ≡ true → not (read.ends_range (Some kind)) ≡ true
 starts_told = within starts (λ kind. not (read.ends_range (Some kind))) refl
 
-not_of : (a : Bool) → not a ≡ true → a ≡ false
-not_of true e = sym e
-not_of false e = refl
-
-ended : (a : Bool) → not a ≡ false → a ≡ true
-ended true e = refl
-ended false e = sym e
-
 -- ---- what follows a range
 
 stops_expression : (rest : List Token) → begins range_more rest ≡ false → begins goes_on rest ≡ false
 stops_expression [] e = refl
-stops_expression (here ∷ rest) e = ends_expression (lexeme_of here) (ended (ends (lexeme_of here)) e)
+stops_expression (here ∷ rest) e = ends_expression (lexeme_of here) (not-false (ends (lexeme_of here)) e)
 
 no_colon : (rest : List Token) → begins range_more rest ≡ false → begins (only lexeme.Colon) rest ≡ false
 no_colon [] e = refl
-no_colon (here ∷ rest) e = ends_no_colon (lexeme_of here) (ended (ends (lexeme_of here)) e)
+no_colon (here ∷ rest) e = ends_no_colon (lexeme_of here) (not-false (ends (lexeme_of here)) e)
 
 told_end : (rest : List Token) → begins range_more rest ≡ false → read.ends_range (first_lexeme rest) ≡ true
 told_end [] e = refl
-told_end (here ∷ rest) e = ends_told (lexeme_of here) (ended (ends (lexeme_of here)) e)
+told_end (here ∷ rest) e = ends_told (lexeme_of here) (not-false (ends (lexeme_of here)) e)
 
 begun_no_colon : (tokens rest : List Token) → begins starts tokens ≡ true → begins (only lexeme.Colon) (tokens ++ rest) ≡ false
 begun_no_colon [] rest e = absurd (cc e)
@@ -100,7 +95,7 @@ begun_no_colon (here ∷ tokens) rest e = starts_no_colon (lexeme_of here) e
 
 begun_no_end : (tokens rest : List Token) → begins starts tokens ≡ true → read.ends_range (first_lexeme (tokens ++ rest)) ≡ false
 begun_no_end [] rest e = absurd (cc e)
-begun_no_end (here ∷ tokens) rest e = not_of (read.ends_range (Some (lexeme_of here))) (starts_told (lexeme_of here) e)
+begun_no_end (here ∷ tokens) rest e = not-true (read.ends_range (Some (lexeme_of here))) (starts_told (lexeme_of here) e)
 
 one_colon : (here : Token) (tokens : List Token) → tokens ≡ here ∷ [] → lexeme_of here ≡ lexeme.Colon → begins (only lexeme.Colon) tokens ≡ true
 one_colon here tokens is_one is = ap (begins (only lexeme.Colon)) is_one ∙ is_same (lexeme_of here) lexeme.Colon is
@@ -130,12 +125,12 @@ module _ (laws : ReadsExpressions) where
   unfolding read.range_from
   from_sound low i r j e = either_way (read.ends_range (peek i)) (by_end low i true) (by_end low i false) (Some (r, j)) e
       (λ last e.
-      let same = some_pair (range.From low) r i j e in
+      let same = some_pair_parts (range.From low) r i j e in
       subst (λ r. Took (high_of low r) i j) same.0 (subst (λ j. Took (high_of low (range.From low)) i j) same.1
-      (record { tokens = []; rest = refl; at = sym (plus_none i.at); says = (refl, refl) })))
+      (record { tokens = []; rest = refl; at = sym (add-zero i.at); says = (refl, refl) })))
       (λ more e.
       let (high, k, found, gives) = bind_some (expression i) (λ high. pure (range.Between low high)) r j e in
-      let same = some_pair (range.Between low high) r k j gives in
+      let same = some_pair_parts (range.Between low high) r k j gives in
       let took = laws.sound i high k found in
       subst (λ r. Took (high_of low r) i j) same.0 (subst (λ j. Took (high_of low (range.Between low high)) i j) same.1
       (record { tokens = took.tokens; rest = took.rest; at = took.at; says = (refl, took.says) })))
@@ -169,11 +164,8 @@ module _ (laws : ReadsExpressions) where
     after,
     split,
     subst (λ e. expr e at before) (sym same) says,
-    subst (λ tokens. mark lexeme.Colon (at + length before) tokens) (sym (split_after ∙ ap (λ last. middle ++ last) none ∙ append_none middle)) colon,
-  ) where
-    append_none : (tokens : List Token) → tokens ++ [] ≡ tokens
-    append_none [] = refl
-    append_none (here ∷ tokens) = ap (λ rest. here ∷ rest) (append_none tokens)
+    subst (λ tokens. mark lexeme.Colon (at + length before) tokens) (sym (split_after ∙ ap (λ last. middle ++ last) none ∙ append-nil middle)) colon,
+  )
   from_low low (range.Between e high) at tokens (before, after, split, says, (middle, last, split_after, colon, (same, says_high))) =
       (before, after, split, subst (λ e. expr e at before) (sym same) says, (middle, last, split_after, colon, says_high))
   from_low low _ at tokens (before, after, split, says, (middle, last, split_after, colon, none)) = absurd none
@@ -187,13 +179,13 @@ module _ (laws : ReadsExpressions) where
         record { tokens = took.tokens; rest = took.rest; at = took.at; says = from_low low r i.at took.tokens took.says }
     by false there =
         let next = sym (ap (λ wide. after_low low wide (after_if wide k)) there) ∙ e in
-        let same = some_pair (range.One low) r k j next in
+        let same = some_pair_parts (range.One low) r k j next in
         subst (λ r. Took (case_range r) i j) same.0 (subst (λ j. Took (expr low) i j) same.1 took_low)
 
   to_sound : (i j : Input) (r : CaseRange) → sees lexeme.Colon i ≡ true → ((λ high. range.To high) <$> expression) (after i) ≡ Some (r, j) → Took (case_range r) i j
   to_sound i j r there e =
       let (high, k, found, gives) = bind_some (expression (after i)) (λ high. pure (range.To high)) r j e in
-      let same = some_pair (range.To high) r k j gives in
+      let same = some_pair_parts (range.To high) r k j gives in
       let took = took_both (mark lexeme.Colon) (expr high) i (after i) k (took_mark lexeme.Colon i there) (laws.sound (after i) high k found) in
       subst (λ r. Took (case_range r) i j) same.0 (subst (λ j. Took (case_range (range.To high)) i j) same.1 took)
 
@@ -289,11 +281,11 @@ module _ (laws : ReadsExpressions) where
   range_complete (range.From e) at tokens rest (before, after, split, says, (here, is_one, is)) stops =
       let whole = split ∙ ap (λ after. before ++ after) is_one in
       regroup (range.From e) at (at + length before + 1) tokens rest (before ++ here ∷ rest) (ap (λ tokens. tokens ++ rest) whole ∙ append_assoc before (here ∷ []) rest)
-      (sym (plus_none (at + length before + 1)) ∙ length_of at before here [] tokens whole) (from_read e here at before rest says is stops)
+      (sym (add-zero (at + length before + 1)) ∙ length_of at before here [] tokens whole) (from_read e here at before rest says is stops)
   range_complete (range.To e) at tokens rest (before, after, split, (here, is_one, is), says) stops =
       let whole = split ∙ ap (λ before. before ++ after) is_one in
       regroup (range.To e) at (at + 1 + length after) tokens rest (here ∷ (after ++ rest)) (ap (λ tokens. tokens ++ rest) whole)
-      (ap (λ place. place + 1 + length after) (sym (plus_none at)) ∙ length_of at [] here after tokens whole) (to_read e here at after rest is (subst (λ before. expr e (at + length before) after) is_one says) stops)
+      (ap (λ place. place + 1 + length after) (sym (add-zero at)) ∙ length_of at [] here after tokens whole) (to_read e here at after rest is (subst (λ before. expr e (at + length before) after) is_one says) stops)
   range_complete (range.Between low high) at tokens rest (before, after, split, says, (middle, last, split_after, (here, is_one, is), says_high)) stops =
       let whole = split ∙ ap (λ after. before ++ after) (split_after ∙ ap (λ middle. middle ++ last) is_one) in
       regroup (range.Between low high) at (at + length before + 1 + length last) tokens rest (before ++ here ∷ (last ++ rest)) (ap (λ tokens. tokens ++ rest) whole ∙ append_assoc before (here ∷ last) rest)
@@ -328,7 +320,7 @@ module _ (laws : ReadsExpressions) where
   unfolding read.selection
   selection_sound at tokens a j e end = either_way (sees_word (codes "default") (input at tokens)) (by_default (input at tokens) true) (by_default (input at tokens) false) (Some (a, j)) e
       (λ seen e.
-      let same = some_pair None a (after (input at tokens)) j e in
+      let same = some_pair_parts None a (after (input at tokens)) j e in
       subst (λ a. case_of a at tokens) same.0
       (took_all (word (codes "default")) at tokens (after (input at tokens)) (took_word (codes "default") (input at tokens) seen) (ap (λ i. i.rest) same.1 ∙ end)))
       (λ unseen e. ranges_sound at tokens a j e end)

@@ -10,19 +10,20 @@ use Rattle.ftn_tree.specs.declared.form.Form.TheViews.{roll-Form, roll-out-Form}
 use Rattle.ftn_tree.specs.declared.lexeme.Lexeme.TheVariants as lexeme
 use Rattle.ftn_tree.specs.declared.parts.CaseRange.{CaseRange}
 use Rattle.ftn_tree.specs.Layers.{FormLayer}
-use Rattle.ftn_tree.specs.Phrases.{Phrase, nothing, ◌·◌, word, mark, name, maybe, in_parens, commas}
+use Rattle.ftn_tree.specs.Phrases.{Phrase, ◌·◌, word, mark, name, maybe, in_parens, commas}
 use Rattle.ftn_tree.specs.Grammar.{expr}
 use Rattle.ftn_tree.specs.Assignments.{IsAssignment, is_assignment}
 use Rattle.ftn_tree.proofs.AssignmentLaws.{assignment_told, told_assignment}
 use Rattle.ftn_tree.specs.ExecutableForms.{condition, inner_from, comma_if, control, case_range, case_of, action_at, statement_at, executable_at, is_executable}
-use Rattle.expr_parse.specs.Input.{Input, input, Reader, Outcome, sees_word, first_lexeme}
-use Rattle.expr_parse.proofs.Pieces.{begins, begins_after, plus_none}
+use Rattle.ftn_tree.proofs.PhraseLaws.{to_right, drop_none}
+use Rattle.expr_parse.specs.steps.Input.{Input, input, Reader, Outcome, sees_word, first_lexeme}
+use Rattle.expr_parse.proofs.Pieces.{begins, begins_after}
 use Rattle.expr_parse.proofs.Tokens.{only}
 use Rattle.expr_parse.proofs.Operands.{ReadsExpressions, ReadsReferences}
-use Rattle.exec_parse.specs.Actions as actions
-use Rattle.exec_parse.specs.Constructs as constructs
-use Rattle.exec_parse.specs.Executables as read
-use Rattle.exec_parse.proofs.Wholes.{Sound, Reads, Complete, either_way, to_right}
+use Rattle.exec_parse.specs.steps.Actions as actions
+use Rattle.exec_parse.specs.steps.Constructs as constructs
+use Rattle.exec_parse.specs.steps.Executables as read
+use Rattle.exec_parse.proofs.Wholes.{Sound, Reads, Complete, either_way}
 use Rattle.exec_parse.proofs.Words.{Starts, starts_with, starts_alone, no_colon, no_colon_alone, begins_otherwise, word_begins, Rows, first_row, rows_sound, differ, picked, passed}
 use Rattle.exec_parse.proofs.ActionLaws.{assignment_at, assignment_sound, assignment_complete, action_sound, action_complete}
 use Rattle.exec_parse.proofs.InnerLaws.{construct_words, differs, action_begins, not_told, untold}
@@ -86,10 +87,6 @@ word_only text at tokens says = begins_otherwise (only lexeme.Word) tokens word_
 selection_first : (ranges : Option (List CaseRange)) (at : ℕ) (tokens : List Token) → case_of ranges at tokens → constructs.is_colon (first_lexeme tokens) ≡ false
 selection_first None at tokens says = word_only (codes "default") at tokens says
 selection_first (Some ranges) at tokens says = paren_alone (commas case_range ranges) at tokens says
-
-without_nothing : (phrase : Phrase) (at : ℕ) (tokens : List Token) → (nothing · phrase) at tokens → phrase at tokens
-without_nothing phrase at tokens (before, rest, split, none, says) =
-    subst (λ tokens. phrase at tokens) (sym (split ∙ ap (λ before. before ++ rest) none)) (subst (λ place. phrase place rest) (ap (λ before. at + length before) none ∙ plus_none at) says)
 
 assigned : (layer : FormLayer) (at : ℕ) (tokens : List Token) → IsAssignment tokens → assignment_at layer at tokens → executable_at layer at tokens
 assigned (Form-F.Assign target value) at tokens is says = (is, says)
@@ -186,10 +183,10 @@ module _ (expressions : ReadsExpressions) (references : ReadsReferences) where
       (starts_with (codes "else") (word (codes "if") · condition e · word (codes "then")) at tokens parts) refl
       (no_colon (codes "else") (word (codes "if") · condition e · word (codes "then")) at tokens parts (word_first (codes "if") (condition e · word (codes "then")))) (else_if_complete expressions false e at tokens says)
   otherwise_read (Form-F.Do None c) at tokens says =
-      do_row (maybe control c) (roll-Form (Form-F.Do None c)) at tokens (without_nothing (word (codes "do") · maybe control c) at tokens says) (after_do_first expressions c) (do_complete expressions None c at tokens says)
+      do_row (maybe control c) (roll-Form (Form-F.Do None c)) at tokens (drop_none (word (codes "do") · maybe control c) at tokens says) (after_do_first expressions c) (do_complete expressions None c at tokens says)
   otherwise_read (Form-F.Do (Some n) c) at tokens says = labelled_row n (word (codes "do") · maybe control c) (roll-Form (Form-F.Do (Some n) c)) at tokens says (do_complete expressions (Some n) c at tokens says)
   otherwise_read (Form-F.DoWhile None comma e) at tokens says =
-      do_row (comma_if comma · word (codes "while") · condition e) (roll-Form (Form-F.DoWhile None comma e)) at tokens (without_nothing (word (codes "do") · comma_if comma · word (codes "while") · condition e) at tokens says)
+      do_row (comma_if comma · word (codes "while") · condition e) (roll-Form (Form-F.DoWhile None comma e)) at tokens (drop_none (word (codes "do") · comma_if comma · word (codes "while") · condition e) at tokens says)
       (after_do_while_first expressions comma e) (do_while_complete expressions None comma e at tokens says)
   otherwise_read (Form-F.DoWhile (Some n) comma e) at tokens says =
       labelled_row n (word (codes "do") · comma_if comma · word (codes "while") · condition e) (roll-Form (Form-F.DoWhile (Some n) comma e)) at tokens says (do_while_complete expressions (Some n) comma e at tokens says)

@@ -18,16 +18,17 @@ use Rattle.ftn_tree.specs.Misfits.{is_name}
 use Rattle.ftn_tree.specs.Assignments.{IsAssignment, is_assignment}
 use Rattle.ftn_tree.proofs.AssignmentLaws.{told_assignment}
 use Rattle.ftn_tree.specs.ExecutableForms.{inner_at, inner_from, condition, statement_at}
-use Rattle.expr_parse.specs.Input as reading
-use Rattle.expr_parse.specs.Input.{Input, Reader, Outcome, ◌>>=◌, ◌>>◌, pure, sees_word, expect_word}
-use Rattle.expr_parse.specs.Combinators.{◌<$>◌}
+use Rattle.ftn_tree.proofs.PhraseLaws.{to_right, to_left}
+use Rattle.expr_parse.specs.steps.Input as reading
+use Rattle.expr_parse.specs.steps.Input.{Outcome, ◌>>=◌, ◌>>◌, sees_word, expect_word}
+use Rattle.expr_parse.specs.steps.Combinators.{◌<$>◌}
 use Rattle.expr_parse.proofs.Pieces.{Piece, Apart, begins, seq}
 use Rattle.expr_parse.proofs.Tokens.{only, none_of, apart_none, word_piece, word_made, word_back, after_word}
 use Rattle.expr_parse.proofs.Operands.{ReadsExpressions, ReadsReferences}
-use Rattle.exec_parse.specs.Lists as lists
-use Rattle.exec_parse.specs.Actions as actions
-use Rattle.exec_parse.specs.Constructs as read
-use Rattle.exec_parse.proofs.Wholes.{Sound, Reads, either_way, all_sound, all_complete, made_sound, made_complete, made_here, then_sound, then_complete, to_right, to_left}
+use Rattle.exec_parse.specs.steps.Lists as lists
+use Rattle.exec_parse.specs.steps.Actions as actions
+use Rattle.exec_parse.specs.steps.Constructs as read
+use Rattle.exec_parse.proofs.Wholes.{Sound, Reads, either_way, all_sound, all_complete, made_sound, made_complete, made_here, then_sound, then_complete}
 use Rattle.exec_parse.proofs.Words.{starts_alone, sees_own, sees_other, before_word, joined_piece}
 use Rattle.exec_parse.proofs.ListPieces.{condition_piece}
 use Rattle.exec_parse.proofs.InnerLaws.{Begins, action_begins, construct_words, differs, inner_sound, inner_complete}

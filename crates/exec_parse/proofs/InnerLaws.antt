@@ -17,11 +17,11 @@ use Rattle.ftn_tree.specs.Grammar.{expr, reference}
 use Rattle.ftn_tree.specs.Assignments.{IsAssignment, is_assignment}
 use Rattle.ftn_tree.proofs.AssignmentLaws.{assignment_told, told_assignment}
 use Rattle.ftn_tree.specs.ExecutableForms.{stop_code, after_stars, action_at, inner_at}
-use Rattle.expr_parse.specs.Input as reading
-use Rattle.expr_parse.specs.Input.{Input, Reader, Outcome, first_lexeme}
+use Rattle.expr_parse.specs.steps.Input as reading
+use Rattle.expr_parse.specs.steps.Input.{Input, Reader, Outcome, first_lexeme}
 use Rattle.expr_parse.proofs.Operands.{ReadsExpressions, ReadsReferences}
-use Rattle.exec_parse.specs.Actions as read
-use Rattle.exec_parse.specs.Constructs.{is_colon, sees_label}
+use Rattle.exec_parse.specs.steps.Actions as read
+use Rattle.exec_parse.specs.steps.Constructs.{is_colon, sees_label}
 use Rattle.exec_parse.proofs.Wholes.{Sound, Reads, either_way}
 use Rattle.exec_parse.proofs.Words.{Starts, starts_with, starts_alone, no_colon, no_colon_alone}
 use Rattle.exec_parse.proofs.ActionLaws.{assignment_at, assignment_sound, assignment_complete, action_sound, action_complete}

@@ -9,3 +9,4 @@ pub mod LoopLaws
 pub mod ExecutableLaws
 pub mod Judged
 pub mod Openings
+pub mod OneForm

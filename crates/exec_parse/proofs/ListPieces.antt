@@ -7,8 +7,8 @@ use Rattle.ftn_tree.specs.declared.lexeme.Lexeme.TheVariants.{Whole, Quoted, Ope
 use Rattle.ftn_tree.specs.Lexemes.{lexeme_of, same_lexeme}
 use Rattle.ftn_tree.specs.Phrases.{token, maybe, commas, commas_or_none}
 use Rattle.ftn_tree.specs.ExecutableForms.{stop_code}
-use Rattle.expr_parse.specs.Input.{Input, and_then, pure, holds_first, taken_if, sees, expect}
-use Rattle.expr_parse.specs.Combinators.{◌<$>◌}
+use Rattle.expr_parse.specs.steps.Input.{Input, and_then, pure, holds_first, taken_if, sees, expect}
+use Rattle.expr_parse.specs.steps.Combinators.{◌<$>◌}
 use Rattle.expr_parse.proofs.Pieces.{Piece, Apart, one, mapped, reread}
 use Rattle.expr_parse.proofs.AllKinds.{apart}
 use Rattle.expr_parse.proofs.Tokens.{only, is_kind, same_is, is_same, after_mark, parens}
@@ -17,8 +17,8 @@ use Rattle.expr_parse.proofs.Commas.{tail}
 use Rattle.expr_parse.proofs.Parens.{parenthesized_list}
 use Rattle.expr_parse.proofs.Ends.{unless_done}
 use Rattle.expr_parse.proofs.Operands.{starts, goes_on, opens, ReadsExpressions, expression_piece, ReadsReferences, reference_piece}
-use Rattle.exec_parse.specs.Lists.{none_or_all}
-use Rattle.exec_parse.specs.Actions as read
+use Rattle.exec_parse.specs.steps.Lists.{none_or_all}
+use Rattle.exec_parse.specs.steps.Actions as read
 
 -- ---- facts on kinds
 

@@ -1,7 +1,8 @@
 -- DO statements are read as they are written.
-use Rattle.std.proofs.Common.{◌≡◌, refl, sym, ◌∙◌, ap, subst, ℕ, ◌+◌, Bool, true, false, ◌||◌, List, [], ◌∷◌, ◌++◌, length, drop, Option, Some, None, if◌then◌else◌, codes, arith}
+use Rattle.std.proofs.Common.{◌≡◌, refl, sym, ◌∙◌, ap, subst, ℕ, ◌+◌, Bool, true, false, ◌||◌, List, [], ◌∷◌, ◌++◌, length, drop, Option, Some, None, if◌then◌else◌, codes, arith, add-zero}
 use Rattle.std.proofs.lemmas.Grind.{common_steps}
 use Rattle.std.proofs.lemmas.Bool.{and_from, and_right}
+use Rattle.std.proofs.lemmas.Option.{some_pair_parts}
 use denote.Hole.Carrier
 use Rattle.ftn_tree.specs.declared.token.Token.{Token}
 use Rattle.ftn_tree.specs.declared.expr.Expr.{Expr}
@@ -17,15 +18,17 @@ use Rattle.ftn_tree.specs.Lexemes.{lexeme_of, same_lexeme}
 use Rattle.ftn_tree.specs.Phrases.{Phrase, nothing, ◌·◌, word, word_at, mark, name, maybe}
 use Rattle.ftn_tree.specs.Grammar.{expr}
 use Rattle.ftn_tree.specs.ExecutableForms.{condition, comma_if, label, control, statement_at}
-use Rattle.expr_parse.specs.Input.{Input, input, Reader, Outcome, ◌>>=◌, ◌>>◌, pure, after_if, eat, sees, sees_word, expect_word, is_done, done_at, peek_second, first_lexeme}
-use Rattle.expr_parse.specs.Combinators.{◌<$>◌}
-use Rattle.expr_parse.proofs.Pieces.{Piece, Took, Apart, begins, begins_after, bind_some, bind_is, some_pair, seq, option, plus_none}
+use Rattle.ftn_tree.proofs.PhraseLaws.{placed, add_none}
+use Rattle.expr_parse.specs.steps.Input.{Input, input, Reader, Outcome, ◌>>=◌, ◌>>◌, pure, after_if, eat, sees, sees_word, expect_word, is_done, done_at, peek_second, first_lexeme}
+use Rattle.expr_parse.specs.steps.Combinators.{◌<$>◌}
+use Rattle.expr_parse.proofs.Pieces.{Piece, Took, Apart, begins, begins_after, bind_some, bind_is, seq, option}
 use Rattle.expr_parse.proofs.AllKinds.{apart, within}
 use Rattle.expr_parse.proofs.Tokens.{only, is_same, word_piece, word_made, word_back, name_piece, after_word, after_mark, before_mark}
 use Rattle.expr_parse.proofs.Lists.{took_mark}
 use Rattle.expr_parse.proofs.Operands.{goes_on, ReadsExpressions, expression_piece}
-use Rattle.exec_parse.specs.Lists as lists
-use Rattle.exec_parse.specs.Constructs as read
+use Rattle.expr_parse.proofs.Ends.{nothing_left}
+use Rattle.exec_parse.specs.steps.Lists as lists
+use Rattle.exec_parse.specs.steps.Constructs as read
 use Rattle.exec_parse.proofs.Wholes.{Sound, Reads, either_way, all_sound, all_complete, made_sound, made_complete, made_here, then_sound, then_complete}
 use Rattle.exec_parse.proofs.Words.{starts_with, sees_own, second_is, no_colon, word_begins, begins_otherwise}
 use Rattle.exec_parse.proofs.ListPieces.{comma_expression, condition_piece}
@@ -61,17 +64,17 @@ abbrev by_label : Input → Bool → Outcome (Option ℕ)
 by_label i seen = if seen then (Some <$> label_piece.read) i else Some (None, i)
 
 took_none : (i : Input) → Took nothing i i
-took_none i = record { tokens = []; rest = refl; at = sym (plus_none i.at); says = refl }
+took_none i = record { tokens = []; rest = refl; at = sym (add-zero i.at); says = refl }
 
 label_sound : (i : Input) (found : Option ℕ) (j : Input) → read.label i ≡ Some (found, j) → Took (maybe label found) i j
 unfolding read.label
 label_sound i found j e = either_way (read.sees_label i) (by_label i true) (by_label i false) (Some (found, j)) e
     (λ seen e.
     let (n, k, named, gives) = bind_some (label_piece.read i) (λ n. pure (Some n)) found j e in
-    let same = some_pair (Some n) found k j gives in
+    let same = some_pair_parts (Some n) found k j gives in
     subst (λ found. Took (maybe label found) i j) same.0 (subst (λ j. Took (label n) i j) same.1 (label_piece.sound i n k named)))
     (λ unseen e.
-    let same = some_pair None found i j e in
+    let same = some_pair_parts None found i j e in
     subst (λ found. Took (maybe label found) i j) same.0 (subst (λ j. Took nothing i j) same.1 (took_none i)))
 
 pub sees_colon : (n at : ℕ) (tokens rest : List Token) → label n at tokens → read.sees_label (input at (tokens ++ rest)) ≡ true
@@ -145,13 +148,6 @@ with_comma label comma (Form-F.Do named (Some c)) at tokens (before, last, split
 with_comma label comma (Form-F.DoWhile named other e) at tokens (before, last, split, says, (same, comma_same, says_while)) =
     (same, (before, last, split, subst (λ comma. comma_if comma at before) (sym comma_same) says, says_while))
 with_comma label comma _ at tokens (before, last, split, says, none) = absurd none
-
-after_nothing : (phrase : Phrase) (at : ℕ) (tokens : List Token) → phrase at tokens → (nothing · phrase) at tokens
-after_nothing phrase at tokens says = ([], tokens, refl, refl, subst (λ place. phrase place tokens) (sym (plus_none at)) says)
-
-nothing_left : (tokens : List Token) → done_at tokens ≡ true → tokens ≡ []
-nothing_left [] e = refl
-nothing_left (here ∷ rest) e = absurd (cc e)
 
 not_done : (tokens : List Token) → begins (only lexeme.Word) tokens ≡ true → done_at tokens ≡ false
 not_done [] e = absurd (cc e)
@@ -238,20 +234,20 @@ module _ (laws : ReadsExpressions) where
         with_comma label true (out-Form f) at tokens (took.tokens, drop 1 tokens, took.rest, took.says, subst (λ place. after_at label true (out-Form f) place (drop 1 tokens)) took.at says)
     by false there =
         let says = after_sound label false at tokens f j (sym (ap (λ there. read.after_do label there (after_if there (input at tokens))) there) ∙ e) end in
-        with_comma label false (out-Form f) at tokens (after_nothing (after_at label false (out-Form f)) at tokens says)
+        with_comma label false (out-Form f) at tokens (add_none (after_at label false (out-Form f)) at tokens says)
 
   rest_sound : (label : Option ℕ) → Sound (read.do_rest label) (λ f. rest_at label (out-Form f))
   unfolding read.do_rest is_done
   rest_sound label at tokens f j e end = either_way (done_at tokens) (by_done label (input at tokens) true) (by_done label (input at tokens) false) (Some (f, j)) e
       (λ done e.
-      let same = some_pair (form.Do label None) f (input at tokens) j e in
+      let same = some_pair_parts (form.Do label None) f (input at tokens) j e in
       subst (λ f. rest_at label (out-Form f) at tokens) same.0 (bare_says label at tokens (nothing_left tokens done)))
       (λ more e. comma_sound label at tokens f j e end)
 
   bare_read : (label : Option ℕ) (at : ℕ) (tokens : List Token) → tokens ≡ [] → Reads (read.do_rest label) (form.Do label None) at tokens
   unfolding read.do_rest is_done
   bare_read label at tokens none =
-      subst (λ tokens. Reads (read.do_rest label) (form.Do label None) at tokens) (sym none) (ap (λ place. Some (form.Do label None, input place [])) (sym (plus_none at)))
+      subst (λ tokens. Reads (read.do_rest label) (form.Do label None) at tokens) (sym none) (ap (λ place. Some (form.Do label None, input place [])) (sym (add-zero at)))
 
   comma_read : (label : Option ℕ) (comma : Bool) (last : Phrase) (f : Form) (at : ℕ) (tokens : List Token) → (comma_if comma · last) at tokens
       → ((at : ℕ) (tokens : List Token) → last at tokens → begins (only lexeme.Word) tokens ≡ true)
@@ -265,7 +261,7 @@ module _ (laws : ReadsExpressions) where
         moved at here rest = grind (arith, common_steps)
   comma_read label false last f at tokens (before, rest, split, none, says) begun reads =
       let first = begun (at + length before) rest says in
-      let says_here = subst (λ place. last place rest) (ap (λ before. at + length before) none ∙ plus_none at) says in
+      let says_here = subst (λ place. last place rest) (ap (λ before. at + length before) none ∙ add-zero at) says in
       subst (λ tokens. Reads (read.do_rest label) f at tokens) (sym (split ∙ ap (λ before. before ++ rest) none))
       (ap (by_done label (input at rest)) (not_done rest first)
       ∙ ap (λ there. read.after_do label there (after_if there (input at rest))) (no_comma rest first) ∙ reads at rest says_here)
@@ -304,15 +300,12 @@ module _ (laws : ReadsExpressions) where
         stops [] = refl
         stops (here ∷ rest) = refl
 
-  placed : (at : ℕ) (one other : List Token) → (at + length one) + length other ≡ at + length (one ++ other)
-  placed at one other = grind (arith, common_steps)
-
   do_complete_by : (named : Option ℕ) (last : Phrase) (f : Form) (at : ℕ) (tokens : List Token) → (maybe label named · word (codes "do") · last) at tokens
       → ((at : ℕ) (tokens : List Token) → last at tokens → read.is_colon (first_lexeme tokens) ≡ false)
       → ((at : ℕ) (tokens : List Token) → last at tokens → Reads (read.do_rest named) f at tokens) → Reads read.do_form f at tokens
   unfolding read.do_form
   do_complete_by None last f at tokens (before, rest, split, none, says) other reads =
-      let says_here = subst (λ place. (word (codes "do") · last) place rest) (ap (λ before. at + length before) none ∙ plus_none at) says in
+      let says_here = subst (λ place. (word (codes "do") · last) place rest) (ap (λ before. at + length before) none ∙ add-zero at) says in
       subst (λ tokens. Reads read.do_form f at tokens) (sym (split ∙ ap (λ before. before ++ rest) none))
       (bind_is (read.label (input at rest)) do_then None (input at rest) (Some (f, input (at + length rest) []))
       (no_label_read at rest (no_colon (codes "do") last at rest says_here other)) (do_read None last f at rest says_here reads))

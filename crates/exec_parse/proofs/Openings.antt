@@ -1,5 +1,5 @@
 -- How executable statements begin: with a word of their own, or with a construct name and a colon.
-use Rattle.std.proofs.Common.{◌≡◌, refl, sym, ◌∙◌, ap, subst, ℕ, ◌+◌, Bool, true, false, not, ◌&&◌, ◌||◌, List, [], ◌∷◌, ◌++◌, length, drop, Option, Some, None, codes, arith, ◌⊎◌, inl, inr}
+use Rattle.std.proofs.Common.{◌≡◌, refl, sym, ◌∙◌, ap, ℕ, ◌+◌, Bool, true, false, not, ◌&&◌, ◌||◌, List, [], ◌∷◌, ◌++◌, length, drop, Some, None, codes, arith, ◌⊎◌, inl, inr}
 use Rattle.std.specs.Str.{bytes_eq}
 use Rattle.std.proofs.lemmas.Slice.Eq.{bytes_eq-Decides}
 use Rattle.std.proofs.lemmas.Bool.{and_parts, not-true, or_cases}
@@ -12,13 +12,13 @@ use Rattle.ftn_tree.specs.declared.lexeme.Lexeme.TheVariants as lexeme
 use Rattle.ftn_tree.specs.declared.parts.LeaveWord.TheVariants as leave_words
 use Rattle.ftn_tree.specs.declared.parts.IoStyle.TheVariants as style
 use Rattle.ftn_tree.specs.Layers.{FormLayer}
-use Rattle.ftn_tree.specs.Lexemes.{lexeme_of, is_word, is_word_at}
+use Rattle.ftn_tree.specs.Lexemes.{is_word, is_word_at}
 use Rattle.ftn_tree.specs.Phrases.{Phrase, nothing, ◌·◌, word, mark, name, maybe, in_parens, commas_or_none, after_commas}
 use Rattle.ftn_tree.specs.Grammar.{expr, reference}
 use Rattle.ftn_tree.specs.Assignments.{IsAssignment}
 use Rattle.ftn_tree.specs.ExecutableForms.{stop_code, after_stars, condition, inner_from, comma_if, control, case_of, action_at, statement_at, executable_at, is_executable}
-use Rattle.expr_parse.specs.Input.{first_lexeme}
-use Rattle.exec_parse.proofs.Wholes.{to_right}
+use Rattle.ftn_tree.proofs.PhraseLaws.{to_right}
+use Rattle.expr_parse.specs.steps.Input.{first_lexeme}
 use Rattle.exec_parse.proofs.Words.{Starts, starts_with, starts_alone}
 
 abbrev pub is_among : List ℕ → List (List ℕ) → Bool

@@ -1,17 +1,13 @@
 -- Readers of all tokens that are left.
-use Rattle.std.proofs.Common.{◌≡◌, refl, sym, ◌∙◌, ap, subst, arith, ℕ, ◌+◌, Bool, true, false, List, [], ◌++◌, length, Some, if◌then◌else◌, append_assoc}
-use Rattle.std.proofs.lemmas.Grind.{common_steps}
+use Rattle.std.proofs.Common.{◌≡◌, refl, sym, ◌∙◌, ap, subst, ℕ, ◌+◌, Bool, true, false, List, [], ◌++◌, length, Some, if◌then◌else◌}
+use Rattle.std.proofs.lemmas.Option.{some_pair_parts}
+use Rattle.std.proofs.lemmas.List.{append-nil}
 use Rattle.ftn_tree.specs.declared.token.Token.{Token}
 use Rattle.ftn_tree.specs.Phrases.{Phrase, ◌·◌}
-use Rattle.expr_parse.specs.Input.{Input, input, Reader, Outcome, ◌>>=◌, pure}
-use Rattle.expr_parse.specs.Combinators.{◌<$>◌}
-use Rattle.expr_parse.proofs.Pieces.{Piece, Took, begins, bind_some, bind_is, some_pair}
-
-append_none : (tokens : List Token) → tokens ++ [] ≡ tokens
-append_none tokens = grind (arith, common_steps)
-
-placed : (at : ℕ) (one other : List Token) → (at + length one) + length other ≡ at + length (one ++ other)
-placed at one other = grind (arith, common_steps)
+use Rattle.ftn_tree.proofs.PhraseLaws.{placed}
+use Rattle.expr_parse.specs.steps.Input.{Input, input, Reader, Outcome, ◌>>=◌, pure}
+use Rattle.expr_parse.specs.steps.Combinators.{◌<$>◌}
+use Rattle.expr_parse.proofs.Pieces.{Piece, Took, begins, bind_some, bind_is}
 
 -- what is read to the end is a phrase of all tokens
 abbrev pub Sound : {A : Type 0} → Reader A → (A → Phrase) → Type 0
@@ -33,7 +29,7 @@ either_way false one other found e f g = g refl e
 
 -- where nothing is left, all was taken
 pub took_all : (phrase : Phrase) (at : ℕ) (tokens : List Token) (j : Input) → Took phrase (input at tokens) j → j.rest ≡ [] → phrase at tokens
-took_all phrase at tokens j took end = subst (λ tokens. phrase at tokens) (sym (took.rest ∙ ap (λ rest. took.tokens ++ rest) end ∙ append_none took.tokens)) took.says
+took_all phrase at tokens j took end = subst (λ tokens. phrase at tokens) (sym (took.rest ∙ ap (λ rest. took.tokens ++ rest) end ∙ append-nil took.tokens)) took.says
 
 module _ {A : Type 0} (piece : Piece A) where
   pub all_sound : Sound piece.read piece.phrase
@@ -41,14 +37,14 @@ module _ {A : Type 0} (piece : Piece A) where
 
   pub all_complete : Complete piece.read piece.phrase
   all_complete a at tokens says =
-      subst (λ all. piece.read (input at all) ≡ Some (a, input (at + length tokens) [])) (append_none tokens) (piece.complete a at tokens [] says refl)
+      subst (λ all. piece.read (input at all) ≡ Some (a, input (at + length tokens) [])) (append-nil tokens) (piece.complete a at tokens [] says refl)
 
 -- values made of what is read
 module _ {A B : Type 0} (read : Reader A) (f : A → B) where
   pub made_sound : (phrase : A → Phrase) (made : B → Phrase) → Sound read phrase → ((a : A) (at : ℕ) (tokens : List Token) → phrase a at tokens → made (f a) at tokens) → Sound (f <$> read) made
   made_sound phrase made sound makes at tokens b j e end =
       let (a, k, found, gives) = bind_some (read (input at tokens)) (λ a. pure (f a)) b j e in
-      let same = some_pair (f a) b k j gives in
+      let same = some_pair_parts (f a) b k j gives in
       subst (λ b. made b at tokens) same.0 (makes a at tokens (sound at tokens a k found (ap (λ i. i.rest) same.1 ∙ end)))
 
   pub made_complete : (a : A) (at : ℕ) (tokens : List Token) → Reads read a at tokens → Reads (f <$> read) (f a) at tokens
@@ -74,25 +70,5 @@ pub made_here : {A B : Type 0} (read : Reader A) (f : A → B) (at : ℕ) (token
     → (a : A) × (k : Input) × (read (input at tokens) ≡ Some (a, k)) × (k.rest ≡ []) × (f a ≡ b)
 made_here read f at tokens b j e end =
     let (a, k, found, gives) = bind_some (read (input at tokens)) (λ a. pure (f a)) b j e in
-    let same = some_pair (f a) b k j gives in
+    let same = some_pair_parts (f a) b k j gives in
     (a, k, found, ap (λ i. i.rest) same.1 ∙ end, same.0)
-
--- ---- phrases one after the other
-
-pub to_right : (one other last : Phrase) (at : ℕ) (tokens : List Token) → ((one · other) · last) at tokens → (one · other · last) at tokens
-to_right one other last at tokens (both, after, split, (before, middle, split_both, says, says_other), says_last) = (
-  before,
-  middle ++ after,
-  split ∙ ap (λ both. both ++ after) split_both ∙ append_assoc before middle after,
-  says,
-  (middle, after, refl, says_other, subst (λ place. last place after) (ap (λ both. at + length both) split_both ∙ sym (placed at before middle)) says_last),
-)
-
-pub to_left : (one other last : Phrase) (at : ℕ) (tokens : List Token) → (one · other · last) at tokens → ((one · other) · last) at tokens
-to_left one other last at tokens (before, rest, split, says, (middle, after, split_rest, says_other, says_last)) = (
-  before ++ middle,
-  after,
-  split ∙ ap (λ rest. before ++ rest) split_rest ∙ sym (append_assoc before middle after),
-  (before, middle, refl, says, says_other),
-  subst (λ place. last place after) (placed at before middle) says_last,
-)

@@ -3,6 +3,7 @@ use Rattle.std.proofs.Common.{◌≡◌, refl, sym, ◌∙◌, ap, subst, arith,
 use Rattle.std.specs.Str.{bytes_eq}
 use Rattle.std.proofs.lemmas.Slice.Eq.{bytes_eq-Decides}
 use Rattle.std.proofs.lemmas.Bool.{cases_Bool, and_parts, not-true}
+use Rattle.std.proofs.lemmas.Option.{some_pair_parts}
 use Rattle.ftn_tree.specs.declared.token.Token.{Token}
 use Rattle.ftn_tree.specs.declared.token.TokenKind.{TokenKind}
 use Rattle.ftn_tree.specs.declared.token.TokenKind.TheVariants as kinds
@@ -12,12 +13,12 @@ use Rattle.ftn_tree.specs.Lexemes.{lexeme_of, is_word, is_word_at, same_lexeme}
 use Rattle.ftn_tree.specs.Phrases.{Phrase, ◌·◌, word, word_at, mark}
 use Rattle.ftn_tree.specs.declared.lexeme.Lexeme.{Lexeme}
 use Rattle.ftn_tree.specs.ExecutableForms.{joined_words}
-use Rattle.expr_parse.specs.Input.{Input, input, Reader, pure, holds_first, sees_word, peek_second, first_lexeme, after, taken_if, expect_word}
-use Rattle.expr_parse.specs.Combinators.{◌<$>◌}
-use Rattle.exec_parse.specs.Constructs as read
-use Rattle.expr_parse.proofs.Pieces.{Piece, Took, Apart, begins, begins_after, bind_some, bind_is, some_pair, before_ignored}
+use Rattle.expr_parse.specs.steps.Input.{Input, input, Reader, pure, holds_first, sees_word, peek_second, first_lexeme, after, taken_if, expect_word}
+use Rattle.expr_parse.specs.steps.Combinators.{◌<$>◌}
+use Rattle.exec_parse.specs.steps.Constructs as read
+use Rattle.expr_parse.proofs.Pieces.{Piece, Took, Apart, begins, begins_after, bind_some, bind_is, before_ignored}
 use Rattle.expr_parse.proofs.Tokens.{only, none_of, word_piece, word_kind, word_made, word_back, after_word}
-use Rattle.exec_parse.specs.Constructs.{is_colon, sees_label}
+use Rattle.exec_parse.specs.steps.Constructs.{is_colon, sees_label}
 use Rattle.exec_parse.proofs.Wholes.{Sound, either_way}
 
 -- the tokens begin with that word
@@ -160,11 +161,11 @@ module _ (whole one other : List ℕ) (differ_whole : bytes_eq one whole ≡ fal
   unfolding read.joined_words
   sound_joined i joined j e = either_way (sees_word whole i) (Some (true, after i)) (((λ _. false) <$> two.read) i) (Some (joined, j)) e
       (λ seen e.
-      let same = some_pair true joined (after i) j e in
+      let same = some_pair_parts true joined (after i) j e in
       subst (λ joined. Took (joined_words whole one other joined) i j) same.0 (subst (λ j. Took (word whole) i j) same.1 (took_word whole i seen)))
       (λ unseen e.
       let (n, k, found, gives) = bind_some (two.read i) (λ n. pure false) joined j e in
-      let same = some_pair false joined k j gives in
+      let same = some_pair_parts false joined k j gives in
       let took = two.sound i n k found in
       subst (λ joined. Took (joined_words whole one other joined) i j) same.0 (subst (λ j. Took (word one · word other) i j) same.1
       (record { tokens = took.tokens; rest = took.rest; at = took.at; says = forget n i.at took.tokens took.says }))) where

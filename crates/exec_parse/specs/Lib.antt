@@ -1,4 +1,1 @@
-pub mod Lists
-pub mod Actions
-pub mod Constructs
-pub mod Executables
+pub mod steps

@@ -1,7 +1,7 @@
 //! Statements that may stand in an IF statement (Fortran 90, 8.1.2.4).
 
-ghost use Rattle.expr_parse.specs.Input.{Gives};
-ghost use Rattle.exec_parse.specs.Actions as spec;
+ghost use Rattle.expr_parse.specs.steps.Input.{Gives};
+ghost use Rattle.exec_parse.specs.steps.Actions as spec;
 
 use crate::lists::read_arguments;
 use crate::transfers::{read_print, read_read, read_write};
@@ -11,7 +11,7 @@ use sqlite_items::Items;
 use std::alloc::Global;
 
 /// `target = value` (7.5.1).
-#[tactic(auto, unfolding(crate::specs::Actions::assignment))]
+#[tactic(auto, unfolding(crate::specs::steps::Actions::assignment))]
 pub fn read_assignment(alloc: Global, cursor: &mut Cursor<'_>) -> Result<Form, Misfit>
     ensures { Gives (spec.assignment cursor.old) result cursor.new }
 {
@@ -22,7 +22,7 @@ pub fn read_assignment(alloc: Global, cursor: &mut Cursor<'_>) -> Result<Form, M
 }
 
 /// `CALL name [( [argument, ..] )]` (12.4.3).
-#[tactic(auto, unfolding(crate::specs::Actions::call))]
+#[tactic(auto, unfolding(crate::specs::steps::Actions::call))]
 fn read_call(alloc: Global, cursor: &mut Cursor<'_>) -> Result<Form, Misfit>
     ensures { Gives (spec.call cursor.old) result cursor.new }
 {
@@ -39,7 +39,7 @@ fn read_call(alloc: Global, cursor: &mut Cursor<'_>) -> Result<Form, Misfit>
 }
 
 /// `EXIT [label]` or `CYCLE [label]` (8.1.4.4).
-#[tactic(auto, unfolding(crate::specs::Actions::leave))]
+#[tactic(auto, unfolding(crate::specs::steps::Actions::leave))]
 fn read_leave(cursor: &mut Cursor<'_>, text: &[u8], word: LeaveWord) -> Result<Form, Misfit>
     ensures { Gives (spec.leave text.now word cursor.old) result cursor.new }
 {
@@ -54,7 +54,7 @@ fn read_leave(cursor: &mut Cursor<'_>, text: &[u8], word: LeaveWord) -> Result<F
     })
 }
 
-#[tactic(auto, unfolding(crate::specs::Actions::stop_code))]
+#[tactic(auto, unfolding(crate::specs::steps::Actions::stop_code))]
 fn read_stop_code(cursor: &mut Cursor<'_>) -> Result<u32, Misfit>
     ensures { Gives (spec.stop_code cursor.old) result cursor.new }
 {
@@ -66,7 +66,7 @@ fn read_stop_code(cursor: &mut Cursor<'_>) -> Result<u32, Misfit>
 }
 
 /// `STOP [code]` (8.3).
-#[tactic(auto, unfolding(crate::specs::Actions::stop))]
+#[tactic(auto, unfolding(crate::specs::steps::Actions::stop))]
 fn read_stop(cursor: &mut Cursor<'_>) -> Result<Form, Misfit>
     ensures { Gives (spec.stop cursor.old) result cursor.new }
 {
@@ -79,7 +79,7 @@ fn read_stop(cursor: &mut Cursor<'_>) -> Result<Form, Misfit>
 }
 
 /// `RETURN` (12.5.2.5).
-#[tactic(auto, unfolding(crate::specs::Actions::return_form))]
+#[tactic(auto, unfolding(crate::specs::steps::Actions::return_form))]
 fn read_return(cursor: &mut Cursor<'_>) -> Result<Form, Misfit>
     ensures { Gives (spec.return_form cursor.old) result cursor.new }
 {
@@ -88,7 +88,7 @@ fn read_return(cursor: &mut Cursor<'_>) -> Result<Form, Misfit>
 }
 
 /// `CONTINUE` (8.4).
-#[tactic(auto, unfolding(crate::specs::Actions::continue_form))]
+#[tactic(auto, unfolding(crate::specs::steps::Actions::continue_form))]
 fn read_continue(cursor: &mut Cursor<'_>) -> Result<Form, Misfit>
     ensures { Gives (spec.continue_form cursor.old) result cursor.new }
 {
@@ -97,7 +97,7 @@ fn read_continue(cursor: &mut Cursor<'_>) -> Result<Form, Misfit>
 }
 
 /// CALL, PRINT, WRITE, READ, EXIT, CYCLE, STOP, RETURN or CONTINUE, as the first word says.
-#[tactic(auto, unfolding(crate::specs::Actions::action))]
+#[tactic(auto, unfolding(crate::specs::steps::Actions::action))]
 pub fn read_action(alloc: Global, cursor: &mut Cursor<'_>) -> Result<Form, Misfit>
     ensures { Gives (spec.action cursor.old) result cursor.new }
 {
@@ -123,7 +123,7 @@ pub fn read_action(alloc: Global, cursor: &mut Cursor<'_>) -> Result<Form, Misfi
 }
 
 /// The statement in an IF statement: an assignment by its shape, or else what its first word says.
-#[tactic(auto, unfolding(crate::specs::Actions::inner))]
+#[tactic(auto, unfolding(crate::specs::steps::Actions::inner))]
 pub fn read_inner(alloc: Global, cursor: &mut Cursor<'_>) -> Result<Form, Misfit>
     ensures { Gives (spec.inner cursor.old) result cursor.new }
 {

@@ -1,8 +1,8 @@
 //! CASE constructs (Fortran 90, 8.1.3).
 
-ghost use Rattle.expr_parse.specs.Input.{Gives};
-ghost use Rattle.expr_parse.specs.Combinators as lists;
-ghost use Rattle.exec_parse.specs.Constructs as spec;
+ghost use Rattle.expr_parse.specs.steps.Input.{Gives};
+ghost use Rattle.expr_parse.specs.steps.Combinators as lists;
+ghost use Rattle.exec_parse.specs.steps.Constructs as spec;
 
 use crate::ifs::read_joined_words;
 use crate::lists::read_condition;
@@ -12,7 +12,7 @@ use sqlite_items::Items;
 use std::alloc::Global;
 
 /// `SELECT CASE ( selector )`.
-#[tactic(auto, unfolding(crate::specs::Constructs::select))]
+#[tactic(auto, unfolding(crate::specs::steps::Constructs::select))]
 pub fn read_select(alloc: Global, cursor: &mut Cursor<'_>) -> Result<Form, Misfit>
     ensures { Gives (spec.select cursor.old) result cursor.new }
 {
@@ -22,7 +22,7 @@ pub fn read_select(alloc: Global, cursor: &mut Cursor<'_>) -> Result<Form, Misfi
 }
 
 /// The rest of a range after `low :`.
-#[tactic(auto, unfolding(crate::specs::Constructs::range_from))]
+#[tactic(auto, unfolding(crate::specs::steps::Constructs::range_from))]
 fn read_range_from(alloc: Global, cursor: &mut Cursor<'_>, low: Expr) -> Result<CaseRange, Misfit>
     ensures { Gives (spec.range_from low cursor.old) result cursor.new }
 {
@@ -36,7 +36,7 @@ fn read_range_from(alloc: Global, cursor: &mut Cursor<'_>, low: Expr) -> Result<
 }
 
 /// `value`, `low :`, `: high` or `low : high`.
-#[tactic(auto, unfolding(crate::specs::Constructs::case_range))]
+#[tactic(auto, unfolding(crate::specs::steps::Constructs::case_range))]
 fn read_range(alloc: Global, cursor: &mut Cursor<'_>) -> Result<CaseRange, Misfit>
     ensures { Gives (spec.case_range cursor.old) result cursor.new }
 {
@@ -65,7 +65,7 @@ fn read_range_list(alloc: Global, cursor: &mut Cursor<'_>) -> Result<Items<CaseR
 }
 
 /// `( range, .. )`.
-#[tactic(auto, unfolding(crate::specs::Constructs::ranges))]
+#[tactic(auto, unfolding(crate::specs::steps::Constructs::ranges))]
 fn read_ranges(alloc: Global, cursor: &mut Cursor<'_>) -> Result<Items<CaseRange>, Misfit>
     ensures { Gives (spec.ranges cursor.old) result cursor.new }
 {
@@ -76,7 +76,7 @@ fn read_ranges(alloc: Global, cursor: &mut Cursor<'_>) -> Result<Items<CaseRange
 }
 
 /// `DEFAULT` or `( range, .. )`, which is nothing for DEFAULT.
-#[tactic(auto, unfolding(crate::specs::Constructs::selection))]
+#[tactic(auto, unfolding(crate::specs::steps::Constructs::selection))]
 fn read_selection(
     alloc: Global,
     cursor: &mut Cursor<'_>,
@@ -90,7 +90,7 @@ fn read_selection(
 }
 
 /// `CASE ( range, .. )` or `CASE DEFAULT`.
-#[tactic(auto, unfolding(crate::specs::Constructs::case_form))]
+#[tactic(auto, unfolding(crate::specs::steps::Constructs::case_form))]
 pub fn read_case(alloc: Global, cursor: &mut Cursor<'_>) -> Result<Form, Misfit>
     ensures { Gives (spec.case_form cursor.old) result cursor.new }
 {

@@ -1,9 +1,11 @@
 //! All executable statements.
 
+ghost use Rattle.std.specs.Prelude.{◌≡◌};
+ghost use Rattle.ftn_tree.specs.Assignments as shapes;
 ghost use Rattle.ftn_tree.specs.ExecutableForms.{is_executable};
-ghost use Rattle.expr_parse.specs.Exact.{IsExact};
-ghost use Rattle.expr_parse.specs.Input.{Gives, tokens_in};
-ghost use Rattle.exec_parse.specs.Executables as spec;
+ghost use Rattle.expr_parse.specs.Exact.{IsExact, IsFitting};
+ghost use Rattle.expr_parse.specs.steps.Input.{Gives, tokens_in};
+ghost use Rattle.exec_parse.specs.steps.Executables as spec;
 
 use crate::actions::{read_action, read_assignment};
 use crate::cases::{read_case, read_select};
@@ -27,27 +29,47 @@ pub fn executable(alloc: Global, tokens: &Tokens, at: Range) -> Result<Form, Sta
     if is_deep(all) {
         return Err(StatementFault::TooDeep);
     }
-    match read_whole_executable(alloc, &mut cursor) {
+    let assigns = is_assignment(all);
+    match fitting_executable(alloc, &mut cursor, assigns) {
         Ok(form) => Ok(form),
         Err(Misfit::NoMemory) => Err(StatementFault::NoMemory),
         Err(Misfit::NoFit) => Err(misfit(all)),
     }
 }
 
-#[tactic(auto, unfolding(crate::specs::Executables::whole_executable))]
-fn read_whole_executable(alloc: Global, cursor: &mut Cursor<'_>) -> Result<Form, Misfit>
-    ensures { Gives (spec.whole_executable cursor.old) result cursor.new }
+/// The executable statement that exactly the tokens left are; `assigns` says whether they are an assignment by their shape. It fails
+/// with [`Misfit::NoFit`] where they are none. Neither the reason nor how deep parentheses nest is looked for: test depth by
+/// [`is_deep`] first.
+pub fn fitting_executable(
+    alloc: Global,
+    cursor: &mut Cursor<'_>,
+    assigns: bool,
+) -> Result<Form, Misfit>
+    requires { assigns ≡ shapes.is_assignment cursor.old.rest }
+    ensures { IsFitting is_executable cursor.old.at cursor.old.rest result }
 {
-    let form = read_executable(alloc, cursor)?;
-    cursor.finish()?;
-    Ok(form)
+    read_whole_executable(alloc, cursor, assigns)
 }
 
-#[tactic(auto, unfolding(crate::specs::Executables::executable))]
-fn read_executable(alloc: Global, cursor: &mut Cursor<'_>) -> Result<Form, Misfit>
+#[tactic(auto, unfolding(crate::specs::steps::Executables::whole_executable))]
+fn read_whole_executable(
+    alloc: Global,
+    cursor: &mut Cursor<'_>,
+    assigns: bool,
+) -> Result<Form, Misfit>
+    requires { assigns ≡ shapes.is_assignment cursor.old.rest }
+    ensures { Gives (spec.whole_executable cursor.old) result cursor.new }
+{
+    let form = read_executable(alloc, cursor, assigns)?;
+    cursor.finish_with(form)
+}
+
+#[tactic(auto, unfolding(crate::specs::steps::Executables::executable))]
+fn read_executable(alloc: Global, cursor: &mut Cursor<'_>, assigns: bool) -> Result<Form, Misfit>
+    requires { assigns ≡ shapes.is_assignment cursor.old.rest }
     ensures { Gives (spec.executable cursor.old) result cursor.new }
 {
-    if is_assignment(cursor.rest()) {
+    if assigns {
         read_assignment(alloc, cursor)
     } else if sees_label(cursor) {
         read_do(alloc, cursor)
@@ -57,7 +79,7 @@ fn read_executable(alloc: Global, cursor: &mut Cursor<'_>) -> Result<Form, Misfi
 }
 
 /// The statement that its first word says.
-#[tactic(auto, unfolding(crate::specs::Executables::statement))]
+#[tactic(auto, unfolding(crate::specs::steps::Executables::statement))]
 fn read_statement(alloc: Global, cursor: &mut Cursor<'_>) -> Result<Form, Misfit>
     ensures { Gives (spec.statement cursor.old) result cursor.new }
 {

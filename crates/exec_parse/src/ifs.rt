@@ -1,8 +1,8 @@
 //! IF constructs and IF statements (Fortran 90, 8.1.2).
 
 ghost use Rattle.std.specs.Prelude.{◌≡◌};
-ghost use Rattle.expr_parse.specs.Input.{Gives};
-ghost use Rattle.exec_parse.specs.Constructs as spec;
+ghost use Rattle.expr_parse.specs.steps.Input.{Gives};
+ghost use Rattle.exec_parse.specs.steps.Constructs as spec;
 
 use crate::actions::read_inner;
 use crate::lists::read_condition;
@@ -12,14 +12,14 @@ use sqlite_items::Boxed;
 use std::alloc::Global;
 
 /// Whether THEN comes next, and not an assignment to a variable of this name.
-#[tactic(auto, unfolding(crate::specs::Constructs::sees_then))]
+#[tactic(auto, unfolding(crate::specs::steps::Constructs::sees_then))]
 fn sees_then(cursor: &Cursor<'_>) -> bool
     ensures { result ≡ spec.sees_then cursor.now }
 {
     !is_assignment(cursor.rest()) && cursor.sees_word(b"then")
 }
 
-#[tactic(auto, unfolding(crate::specs::Constructs::after_condition))]
+#[tactic(auto, unfolding(crate::specs::steps::Constructs::after_condition))]
 fn read_after_condition(
     alloc: Global,
     cursor: &mut Cursor<'_>,
@@ -41,7 +41,7 @@ fn read_after_condition(
 }
 
 /// `IF ( condition ) THEN` or `IF ( condition ) statement`.
-#[tactic(auto, unfolding(crate::specs::Constructs::if_form))]
+#[tactic(auto, unfolding(crate::specs::steps::Constructs::if_form))]
 pub fn read_if(alloc: Global, cursor: &mut Cursor<'_>) -> Result<Form, Misfit>
     ensures { Gives (spec.if_form cursor.old) result cursor.new }
 {
@@ -51,7 +51,7 @@ pub fn read_if(alloc: Global, cursor: &mut Cursor<'_>) -> Result<Form, Misfit>
 }
 
 /// Two words that may be written as one, and whether they are.
-#[tactic(auto, unfolding(crate::specs::Constructs::joined_words))]
+#[tactic(auto, unfolding(crate::specs::steps::Constructs::joined_words))]
 pub fn read_joined_words(
     cursor: &mut Cursor<'_>,
     whole: &[u8],
@@ -68,7 +68,7 @@ pub fn read_joined_words(
     Ok(false)
 }
 
-#[tactic(auto, unfolding(crate::specs::Constructs::else_if))]
+#[tactic(auto, unfolding(crate::specs::steps::Constructs::else_if))]
 fn read_else_if(alloc: Global, cursor: &mut Cursor<'_>) -> Result<Form, Misfit>
     ensures { Gives (spec.else_if cursor.old) result cursor.new }
 {
@@ -78,7 +78,7 @@ fn read_else_if(alloc: Global, cursor: &mut Cursor<'_>) -> Result<Form, Misfit>
     Ok(Form::ElseIf { joined, condition })
 }
 
-#[tactic(auto, unfolding(crate::specs::Constructs::plain_else))]
+#[tactic(auto, unfolding(crate::specs::steps::Constructs::plain_else))]
 fn read_plain_else(cursor: &mut Cursor<'_>) -> Result<Form, Misfit>
     ensures { Gives (spec.plain_else cursor.old) result cursor.new }
 {
@@ -87,7 +87,7 @@ fn read_plain_else(cursor: &mut Cursor<'_>) -> Result<Form, Misfit>
 }
 
 /// `ELSE` or `ELSE IF ( condition ) THEN`.
-#[tactic(auto, unfolding(crate::specs::Constructs::else_form))]
+#[tactic(auto, unfolding(crate::specs::steps::Constructs::else_form))]
 pub fn read_else(alloc: Global, cursor: &mut Cursor<'_>) -> Result<Form, Misfit>
     ensures { Gives (spec.else_form cursor.old) result cursor.new }
 {

@@ -1,7 +1,7 @@
 //! Lists of expressions in executable statements.
 
-ghost use Rattle.expr_parse.specs.Input.{Gives};
-ghost use Rattle.exec_parse.specs.Lists as spec;
+ghost use Rattle.expr_parse.specs.steps.Input.{Gives};
+ghost use Rattle.exec_parse.specs.steps.Lists as spec;
 
 use expr_parse::{
     Cursor, Misfit, read_expression, read_expressions, read_reference, read_references,
@@ -11,7 +11,7 @@ use sqlite_items::Items;
 use std::alloc::Global;
 
 /// `( condition )`.
-#[tactic(auto, unfolding(crate::specs::Lists::condition))]
+#[tactic(auto, unfolding(crate::specs::steps::Lists::condition))]
 pub fn read_condition(alloc: Global, cursor: &mut Cursor<'_>) -> Result<Expr, Misfit>
     ensures { Gives (spec.condition cursor.old) result cursor.new }
 {
@@ -22,7 +22,7 @@ pub fn read_condition(alloc: Global, cursor: &mut Cursor<'_>) -> Result<Expr, Mi
 }
 
 /// `( [argument, ..] )`.
-#[tactic(auto, unfolding(crate::specs::Lists::arguments))]
+#[tactic(auto, unfolding(crate::specs::steps::Lists::arguments))]
 pub fn read_arguments(alloc: Global, cursor: &mut Cursor<'_>) -> Result<Items<Expr>, Misfit>
     ensures { Gives (spec.arguments cursor.old) result cursor.new }
 {
@@ -36,7 +36,7 @@ pub fn read_arguments(alloc: Global, cursor: &mut Cursor<'_>) -> Result<Items<Ex
 }
 
 /// The items of an output statement after `*`, each with its comma before it.
-#[tactic(auto, unfolding(crate::specs::Lists::items_after_star))]
+#[tactic(auto, unfolding(crate::specs::steps::Lists::items_after_star))]
 pub fn read_items_after_star(alloc: Global, cursor: &mut Cursor<'_>) -> Result<Items<Expr>, Misfit>
     ensures { Gives (spec.items_after_star cursor.old) result cursor.new }
 {
@@ -51,7 +51,7 @@ pub fn read_items_after_star(alloc: Global, cursor: &mut Cursor<'_>) -> Result<I
 }
 
 /// The variables of an input statement after `*`, each with its comma before it.
-#[tactic(auto, unfolding(crate::specs::Lists::variables_after_star))]
+#[tactic(auto, unfolding(crate::specs::steps::Lists::variables_after_star))]
 pub fn read_variables_after_star(
     alloc: Global,
     cursor: &mut Cursor<'_>,
@@ -69,7 +69,7 @@ pub fn read_variables_after_star(
 }
 
 /// The items of an output statement after parentheses.
-#[tactic(auto, unfolding(crate::specs::Lists::items))]
+#[tactic(auto, unfolding(crate::specs::steps::Lists::items))]
 pub fn read_items(alloc: Global, cursor: &mut Cursor<'_>) -> Result<Items<Expr>, Misfit>
     ensures { Gives (spec.items cursor.old) result cursor.new }
 {
@@ -80,7 +80,7 @@ pub fn read_items(alloc: Global, cursor: &mut Cursor<'_>) -> Result<Items<Expr>,
 }
 
 /// The variables of an input statement after parentheses.
-#[tactic(auto, unfolding(crate::specs::Lists::variables))]
+#[tactic(auto, unfolding(crate::specs::steps::Lists::variables))]
 pub fn read_variables(alloc: Global, cursor: &mut Cursor<'_>) -> Result<Items<Expr>, Misfit>
     ensures { Gives (spec.variables cursor.old) result cursor.new }
 {

@@ -1,8 +1,8 @@
 //! DO constructs (Fortran 90, 8.1.4).
 
 ghost use Rattle.std.specs.Prelude.{◌≡◌};
-ghost use Rattle.expr_parse.specs.Input.{Gives};
-ghost use Rattle.exec_parse.specs.Constructs as spec;
+ghost use Rattle.expr_parse.specs.steps.Input.{Gives};
+ghost use Rattle.exec_parse.specs.steps.Constructs as spec;
 
 use crate::lists::read_condition;
 use expr_parse::{Cursor, Misfit, read_expression};
@@ -10,7 +10,7 @@ use ftn_tree::{DoControl, Expr, Form, Lexeme};
 use std::alloc::Global;
 
 /// Whether a construct name and its colon come next.
-#[tactic(auto, unfolding(crate::specs::Constructs::sees_label))]
+#[tactic(auto, unfolding(crate::specs::steps::Constructs::sees_label))]
 pub fn sees_label(cursor: &Cursor<'_>) -> bool
     ensures { result ≡ spec.sees_label cursor.now }
 {
@@ -18,7 +18,7 @@ pub fn sees_label(cursor: &Cursor<'_>) -> bool
 }
 
 /// `[label :]`.
-#[tactic(auto, unfolding(crate::specs::Constructs::label))]
+#[tactic(auto, unfolding(crate::specs::steps::Constructs::label))]
 fn read_label(cursor: &mut Cursor<'_>) -> Result<Option<u32>, Misfit>
     ensures { Gives (spec.label cursor.old) result cursor.new }
 {
@@ -31,7 +31,7 @@ fn read_label(cursor: &mut Cursor<'_>) -> Result<Option<u32>, Misfit>
 }
 
 /// `, step`.
-#[tactic(auto, unfolding(crate::specs::Constructs::step))]
+#[tactic(auto, unfolding(crate::specs::steps::Constructs::step))]
 fn read_step(alloc: Global, cursor: &mut Cursor<'_>) -> Result<Expr, Misfit>
     ensures { Gives (spec.step cursor.old) result cursor.new }
 {
@@ -40,7 +40,7 @@ fn read_step(alloc: Global, cursor: &mut Cursor<'_>) -> Result<Expr, Misfit>
 }
 
 /// `variable = from, to [, step]`.
-#[tactic(auto, unfolding(crate::specs::Constructs::control))]
+#[tactic(auto, unfolding(crate::specs::steps::Constructs::control))]
 fn read_control(alloc: Global, cursor: &mut Cursor<'_>, comma: bool) -> Result<DoControl, Misfit>
     ensures { Gives (spec.control comma cursor.old) result cursor.new }
 {
@@ -64,14 +64,14 @@ fn read_control(alloc: Global, cursor: &mut Cursor<'_>, comma: bool) -> Result<D
 }
 
 /// Whether WHILE comes next, and not a DO variable of this name.
-#[tactic(auto, unfolding(crate::specs::Constructs::sees_while))]
+#[tactic(auto, unfolding(crate::specs::steps::Constructs::sees_while))]
 fn sees_while(cursor: &Cursor<'_>) -> bool
     ensures { result ≡ spec.sees_while cursor.now }
 {
     cursor.sees_word(b"while") && matches!(cursor.peek_second(), Some(Lexeme::Open))
 }
 
-#[tactic(auto, unfolding(crate::specs::Constructs::after_do))]
+#[tactic(auto, unfolding(crate::specs::steps::Constructs::after_do))]
 fn read_after_do(
     alloc: Global,
     cursor: &mut Cursor<'_>,
@@ -96,7 +96,7 @@ fn read_after_do(
     })
 }
 
-#[tactic(auto, unfolding(crate::specs::Constructs::do_rest))]
+#[tactic(auto, unfolding(crate::specs::steps::Constructs::do_rest))]
 fn read_do_rest(alloc: Global, cursor: &mut Cursor<'_>, label: Option<u32>) -> Result<Form, Misfit>
     ensures { Gives (spec.do_rest label cursor.old) result cursor.new }
 {
@@ -111,7 +111,7 @@ fn read_do_rest(alloc: Global, cursor: &mut Cursor<'_>, label: Option<u32>) -> R
 }
 
 /// `[label :] DO [[,] variable = from, to [, step]]` or `[label :] DO [,] WHILE ( condition )`.
-#[tactic(auto, unfolding(crate::specs::Constructs::do_form))]
+#[tactic(auto, unfolding(crate::specs::steps::Constructs::do_form))]
 pub fn read_do(alloc: Global, cursor: &mut Cursor<'_>) -> Result<Form, Misfit>
     ensures { Gives (spec.do_form cursor.old) result cursor.new }
 {

@@ -1,7 +1,7 @@
 //! Input and output statements (Fortran 90, 9.4).
 
-ghost use Rattle.expr_parse.specs.Input.{Gives};
-ghost use Rattle.exec_parse.specs.Actions as spec;
+ghost use Rattle.expr_parse.specs.steps.Input.{Gives};
+ghost use Rattle.exec_parse.specs.steps.Actions as spec;
 
 use crate::lists::{read_items, read_items_after_star, read_variables, read_variables_after_star};
 use expr_parse::{Cursor, Misfit};
@@ -21,7 +21,7 @@ fn read_stars(cursor: &mut Cursor<'_>) -> Result<(), Misfit>
 }
 
 /// `PRINT * [, item, ..]`.
-#[tactic(auto, unfolding(crate::specs::Actions::print))]
+#[tactic(auto, unfolding(crate::specs::steps::Actions::print))]
 pub fn read_print(alloc: Global, cursor: &mut Cursor<'_>) -> Result<Form, Misfit>
     ensures { Gives (spec.print cursor.old) result cursor.new }
 {
@@ -35,7 +35,7 @@ pub fn read_print(alloc: Global, cursor: &mut Cursor<'_>) -> Result<Form, Misfit
 }
 
 /// `WRITE ( *, * ) [item, ..]`.
-#[tactic(auto, unfolding(crate::specs::Actions::write))]
+#[tactic(auto, unfolding(crate::specs::steps::Actions::write))]
 pub fn read_write(alloc: Global, cursor: &mut Cursor<'_>) -> Result<Form, Misfit>
     ensures { Gives (spec.write cursor.old) result cursor.new }
 {
@@ -48,7 +48,7 @@ pub fn read_write(alloc: Global, cursor: &mut Cursor<'_>) -> Result<Form, Misfit
     })
 }
 
-#[tactic(auto, unfolding(crate::specs::Actions::read_star))]
+#[tactic(auto, unfolding(crate::specs::steps::Actions::read_star))]
 fn read_read_star(alloc: Global, cursor: &mut Cursor<'_>) -> Result<Form, Misfit>
     ensures { Gives (spec.read_star cursor.old) result cursor.new }
 {
@@ -61,7 +61,7 @@ fn read_read_star(alloc: Global, cursor: &mut Cursor<'_>) -> Result<Form, Misfit
     })
 }
 
-#[tactic(auto, unfolding(crate::specs::Actions::read_paren))]
+#[tactic(auto, unfolding(crate::specs::steps::Actions::read_paren))]
 fn read_read_paren(alloc: Global, cursor: &mut Cursor<'_>) -> Result<Form, Misfit>
     ensures { Gives (spec.read_paren cursor.old) result cursor.new }
 {
@@ -75,7 +75,7 @@ fn read_read_paren(alloc: Global, cursor: &mut Cursor<'_>) -> Result<Form, Misfi
 }
 
 /// `READ * [, variable, ..]` or `READ ( *, * ) [variable, ..]`.
-#[tactic(auto, unfolding(crate::specs::Actions::read))]
+#[tactic(auto, unfolding(crate::specs::steps::Actions::read))]
 pub fn read_read(alloc: Global, cursor: &mut Cursor<'_>) -> Result<Form, Misfit>
     ensures { Gives (spec.read cursor.old) result cursor.new }
 {

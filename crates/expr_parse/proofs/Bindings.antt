@@ -1,6 +1,8 @@
 -- Facts on how operators bind.
 use Rattle.std.proofs.Common.{◌≡◌, refl, ◌∙◌, ap, subst, arith, lit≤, ℕ, suc, ◌≤◌, Bool, true, false, ◌&&◌, List, [], ◌∷◌, Option, Some, None, ◌⊎◌, inl, inr}
 use Rattle.std.specs.Prelude.{nat_le, if◌then◌else◌}
+use Rattle.std.proofs.lemmas.Option.{same_Some}
+use Rattle.std.proofs.lemmas.Bool.{leb-true, and_parts, le-leb}
 use Rattle.ftn_tree.specs.declared.token.Token.{Token}
 use Rattle.ftn_tree.specs.declared.lexeme.Lexeme.{Lexeme}
 use Rattle.ftn_tree.specs.declared.operator.Operator.{Operator}
@@ -9,8 +11,8 @@ use Rattle.ftn_tree.specs.declared.lexeme.Lexeme.TheVariants as lexeme
 use Rattle.ftn_tree.specs.Lexemes.{lexeme_of}
 use Rattle.ftn_tree.specs.Levels.{Binding, Prefix, between, before}
 use Rattle.ftn_tree.specs.Grammar.{IsBetween, IsBefore}
-use Rattle.expr_parse.specs.Input.{Input, first_lexeme, peek}
-use Rattle.expr_parse.specs.Operators.{next_operator, next_sign, only_between, only_before, between_at, before_at, fits_between}
+use Rattle.expr_parse.specs.steps.Input.{Input, first_lexeme, peek}
+use Rattle.expr_parse.specs.steps.Operators.{next_operator, next_sign, only_between, only_before, between_at, before_at, fits_between}
 
 -- an operator that makes an expression of a greater level than that of its right operand
 pub record Ordinary (how : Binding) : Type 0 where
@@ -26,17 +28,14 @@ abbrev how_or : Binding → Option Binding → Binding
 how_or other None = other
 how_or other (Some how) = how
 
-same_how : (one other : Binding) → ◌≡◌ {A = Option Binding} (Some one) (Some other) → one ≡ other
-same_how one other e = ap (how_or one) e
-
 abbrev Either : Binding → Type 0
 Either how = (power ≡ how) ⊎ Ordinary how
 
 by_numbers : (op : Operator) (level left right : ℕ) (how : Binding) → ◌≡◌ {A = Option Binding} (Some (record { operator = op; level = level; left = left; right = right })) (Some how) → level ≡ suc right → 1 ≤ right → left ≤ level → 1 ≤ left → Either how
-by_numbers op level left right how e a b c d = inr (subst Ordinary (same_how _ how e) (record { level = a; right = b; left = c; left_some = d }))
+by_numbers op level left right how e a b c d = inr (subst Ordinary (same_Some _ how e) (record { level = a; right = b; left = c; left_some = d }))
 
 pub each_binding : (kind : Lexeme) (how : Binding) → between kind ≡ Some how → Either how
-each_binding lexeme.Power how e = inl (same_how _ how e)
+each_binding lexeme.Power how e = inl (same_Some _ how e)
 each_binding lexeme.Times how e = by_numbers ops.Times 2 2 1 how e refl (lit≤ tt) (lit≤ tt) (lit≤ tt)
 each_binding lexeme.Divide how e = by_numbers ops.Divide 2 2 1 how e refl (lit≤ tt) (lit≤ tt) (lit≤ tt)
 each_binding lexeme.Plus how e = by_numbers ops.Plus 3 3 2 how e refl (lit≤ tt) (lit≤ tt) (lit≤ tt)
@@ -55,7 +54,7 @@ each_binding lexeme.Neqv how e = by_numbers ops.Neqv 9 9 8 how e refl (lit≤ tt
 each_binding _ how e = absurd (cc e)
 
 other_binding : {A : Type 0} (op : Operator) (level left right : ℕ) → ◌≡◌ {A = Option Binding} (Some (record { operator = op; level = level; left = left; right = right })) (Some power) → 2 ≤ level → A
-other_binding op level left right e above = absurd (contrary (ap (λ (how : Binding). how.level) (same_how _ power e))) where
+other_binding op level left right e above = absurd (contrary (ap (λ (how : Binding). how.level) (same_Some _ power e))) where
   contrary : level ≡ 1 → ⊥
   contrary is = absurd (omega arith)
 
@@ -101,11 +100,8 @@ abbrev prefix_or : Prefix → Option Prefix → Prefix
 prefix_or other None = other
 prefix_or other (Some how) = how
 
-same_prefix : (one other : Prefix) → ◌≡◌ {A = Option Prefix} (Some one) (Some other) → one ≡ other
-same_prefix one other e = ap (prefix_or one) e
-
 by_prefix : (op : Operator) (level operand : ℕ) (how : Prefix) → ◌≡◌ {A = Option Prefix} (Some (record { operator = op; level = level; operand = operand })) (Some how) → level ≡ suc operand → 2 ≤ operand → IsSign how
-by_prefix op level operand how e a b = subst IsSign (same_prefix _ how e) (record { above = a; some = b })
+by_prefix op level operand how e a b = subst IsSign (same_Some _ how e) (record { above = a; some = b })
 
 pub each_sign : (kind : Lexeme) (how : Prefix) → before kind ≡ Some how → IsSign how
 each_sign lexeme.Plus how e = by_prefix ops.Plus 3 2 how e refl (lit≤ tt)
@@ -123,22 +119,15 @@ pub record NextOperator (most own : ℕ) (how : Binding) (i : Input) : Type 0 wh
   pub fits : how.level ≤ most
   pub left : own ≤ how.left
 
-le_of : (a b : ℕ) → nat_le a b ≡ true → a ≤ b
-le_of a b e = grind arith
-
-both_true : (a b : Bool) → (a && b) ≡ true → (a ≡ true) × (b ≡ true)
-both_true true b e = (refl, e)
-both_true false b e = absurd (cc e)
-
 pub operator_is : (most own : ℕ) (how : Binding) (i : Input) → next_operator most own i ≡ Some how → NextOperator most own how i
 unfolding next_operator peek
 operator_is most own how i e = by_row i.rest refl e where
   by_fit : (here : Token) (rest : List Token) → i.rest ≡ here ∷ rest → (found : Binding) → between (lexeme_of here) ≡ Some found → (fits : Bool) → fits_between most own found ≡ fits
       → (if fits then Some found else None) ≡ Some how → NextOperator most own how i
   by_fit here rest row found is true fits e =
-      let both = both_true (nat_le found.level most) (nat_le own found.left) fits in
-      subst (λ how. NextOperator most own how i) (same_how found how e)
-      (record { here = here; rest = rest; row = row; is = is; fits = le_of found.level most both.0; left = le_of own found.left both.1 })
+      let both = and_parts (nat_le found.level most) (nat_le own found.left) fits in
+      subst (λ how. NextOperator most own how i) (same_Some found how e)
+      (record { here = here; rest = rest; row = row; is = is; fits = leb-true found.level most both.0; left = leb-true own found.left both.1 })
   by_fit here rest row found is false fits e = absurd (cc e)
 
   by_how : (here : Token) (rest : List Token) → i.rest ≡ here ∷ rest → (found : Option Binding) → between (lexeme_of here) ≡ found → only_between most own found ≡ Some how → NextOperator most own how i
@@ -162,7 +151,7 @@ sign_is most how i e = by_row i.rest refl e where
   by_fit : (here : Token) (rest : List Token) → i.rest ≡ here ∷ rest → (found : Prefix) → before (lexeme_of here) ≡ Some found → (fits : Bool) → nat_le found.level most ≡ fits
       → (if fits then Some found else None) ≡ Some how → Sign most how i
   by_fit here rest row found is true fits e =
-      subst (λ how. Sign most how i) (same_prefix found how e) (record { here = here; rest = rest; row = row; is = is; fits = le_of found.level most fits })
+      subst (λ how. Sign most how i) (same_Some found how e) (record { here = here; rest = rest; row = row; is = is; fits = leb-true found.level most fits })
   by_fit here rest row found is false fits e = absurd (cc e)
 
   by_how : (here : Token) (rest : List Token) → i.rest ≡ here ∷ rest → (found : Option Prefix) → before (lexeme_of here) ≡ found → only_before most found ≡ Some how → Sign most how i
@@ -173,17 +162,14 @@ sign_is most how i e = by_row i.rest refl e where
   by_row [] row e = absurd (cc e)
   by_row (here ∷ rest) row e = by_how here rest row (before (lexeme_of here)) refl e
 
-le_is : (a b : ℕ) → a ≤ b → nat_le a b ≡ true
-le_is a b e = grind arith
-
 -- the other way round: such an operator is taken
 pub operator_here : (most own : ℕ) (how : Binding) (i : Input) (here : Token) (rest : List Token) → i.rest ≡ here ∷ rest → IsBetween here how → how.level ≤ most → own ≤ how.left → next_operator most own i ≡ Some how
 unfolding next_operator peek
 operator_here most own how i here rest row is fits left =
     ap (λ row. only_between most own (between_at (first_lexeme row))) row ∙ ap (only_between most own) is
-    ∙ ap (λ fits. if fits && nat_le own how.left then Some how else None) (le_is how.level most fits) ∙ ap (λ fits. if fits then Some how else None) (le_is own how.left left)
+    ∙ ap (λ fits. if fits && nat_le own how.left then Some how else None) (le-leb how.level most fits) ∙ ap (λ fits. if fits then Some how else None) (le-leb own how.left left)
 
 pub sign_here : (most : ℕ) (how : Prefix) (i : Input) (here : Token) (rest : List Token) → i.rest ≡ here ∷ rest → IsBefore here how → how.level ≤ most → next_sign most i ≡ Some how
 unfolding next_sign peek
 sign_here most how i here rest row is fits =
-    ap (λ row. only_before most (before_at (first_lexeme row))) row ∙ ap (only_before most) is ∙ ap (λ fits. if fits then Some how else None) (le_is how.level most fits)
+    ap (λ row. only_before most (before_at (first_lexeme row))) row ∙ ap (only_before most) is ∙ ap (λ fits. if fits then Some how else None) (le-leb how.level most fits)

@@ -3,7 +3,7 @@ use Rattle.std.proofs.Common.{◌≡◌, refl, ap, ℕ, List, [], ◌∷◌, ◌
 use Rattle.ftn_tree.specs.declared.expr.Expr.{Expr}
 use Rattle.ftn_tree.specs.declared.expr.Expr.TheVariants as e
 use Rattle.ftn_tree.specs.declared.operator.Operator.TheVariants as ops
-use Rattle.expr_parse.specs.Operators.{chained}
+use Rattle.expr_parse.specs.steps.Operators.{chained}
 
 pub chained_last : (steps : List (Expr × ℕ)) (step : Expr × ℕ) (last : Expr) → chained (steps ++ step ∷ []) last ≡ chained steps (e.Binary step.1 ops.Power step.0 last)
 chained_last [] step last = refl

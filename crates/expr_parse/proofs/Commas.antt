@@ -1,14 +1,15 @@
 -- Pieces of lists each item of which has its comma before it.
-use Rattle.std.proofs.Common.{◌≡◌, refl, sym, ◌∙◌, ap, subst, arith, ℕ, zero, suc, ◌+◌, ◌≤◌, Bool, true, false, ◌||◌, List, [], ◌∷◌, ◌++◌, length, Option, Some, append_assoc, ◌⊎◌, inl, inr, if◌then◌else◌}
+use Rattle.std.proofs.Common.{◌≡◌, refl, sym, ◌∙◌, ap, subst, arith, ℕ, zero, suc, ◌+◌, ◌≤◌, Bool, true, false, ◌||◌, List, [], ◌∷◌, ◌++◌, length, Option, Some, append_assoc, ◌⊎◌, inl, inr, if◌then◌else◌, add-zero}
 use Rattle.std.proofs.lemmas.Grind.{common_steps}
+use Rattle.std.proofs.lemmas.Option.{some_pair_parts}
 use Rattle.ftn_tree.specs.declared.token.Token.{Token}
 use Rattle.ftn_tree.specs.declared.lexeme.Lexeme.{Lexeme}
 use Rattle.ftn_tree.specs.declared.lexeme.Lexeme.TheVariants.{Comma}
 use Rattle.ftn_tree.specs.Lexemes.{lexeme_of}
 use Rattle.ftn_tree.specs.Phrases.{nothing, ◌·◌, mark, after_commas}
-use Rattle.expr_parse.specs.Input.{Input, input, Reader, ◌>>=◌, pure, after, after_if, sees}
-use Rattle.expr_parse.specs.Combinators.{each_after_comma, each_after_comma_from}
-use Rattle.expr_parse.proofs.Pieces.{Piece, Took, Apart, begins, begins_or, bind_some, bind_is, some_pair, took_both, plus_none}
+use Rattle.expr_parse.specs.steps.Input.{Input, input, Reader, ◌>>=◌, pure, after, after_if, sees}
+use Rattle.expr_parse.specs.steps.Combinators.{each_after_comma, each_after_comma_from}
+use Rattle.expr_parse.proofs.Pieces.{Piece, Took, Apart, begins, begins_or, bind_some, bind_is, took_both}
 use Rattle.expr_parse.proofs.Tokens.{only, is_same}
 use Rattle.expr_parse.proofs.Lists.{took_mark}
 
@@ -26,11 +27,11 @@ module _ {A : Type 0} (piece : Piece A) (apart : Apart (only Comma) piece.more) 
 
   none_found : (found all : List A) (i j : Input) → ◌≡◌ {A = Option (List A × Input)} (Some (found, i)) (Some (all, j)) → Found found all i j
   none_found found all i j e =
-      let same = some_pair found all i j e in
+      let same = some_pair_parts found all i j e in
       record {
         items = [];
         is = sym same.0 ∙ append_none found;
-        took = subst (λ j. Took nothing i j) same.1 (record { tokens = []; rest = refl; at = sym (plus_none i.at); says = refl });
+        took = subst (λ j. Took nothing i j) same.1 (record { tokens = []; rest = refl; at = sym (add-zero i.at); says = refl });
       } where
         append_none : (found : List A) → found ≡ found ++ []
         append_none found = grind (arith, common_steps)
@@ -71,12 +72,12 @@ module _ {A : Type 0} (piece : Piece A) (apart : Apart (only Comma) piece.more) 
 
   read_none : (n : ℕ) (found : List A) (at : ℕ) (rest : List Token) → begins tail_more rest ≡ false → Reads n found [] at [] rest
   unfolding each_after_comma_from sees
-  read_none zero found at rest stops = ap (λ found. Some (found, input at rest)) (append_none found) ∙ ap (λ place. Some (found ++ [], input place rest)) (sym (plus_none at)) where
+  read_none zero found at rest stops = ap (λ found. Some (found, input at rest)) (append_none found) ∙ ap (λ place. Some (found ++ [], input place rest)) (sym (add-zero at)) where
     append_none : (found : List A) → found ≡ found ++ []
     append_none found = grind (arith, common_steps)
   read_none (suc n) found at rest stops =
       ap (λ there. next n found there (after_if there (input at rest))) (begins_or piece.more (only Comma) rest stops).1
-      ∙ ap (λ found. Some (found, input at rest)) (append_none found) ∙ ap (λ place. Some (found ++ [], input place rest)) (sym (plus_none at)) where
+      ∙ ap (λ found. Some (found, input at rest)) (append_none found) ∙ ap (λ place. Some (found ++ [], input place rest)) (sym (add-zero at)) where
         append_none : (found : List A) → found ≡ found ++ []
         append_none found = grind (arith, common_steps)
 

@@ -11,13 +11,13 @@ use Rattle.ftn_tree.specs.Levels.{Binding, Prefix, before, loosest}
 use Rattle.ftn_tree.specs.Trees.{Tree, whole, truth, quoted, paren, unary, binary, refer}
 use Rattle.ftn_tree.specs.Phrases.{Phrase, ◌·◌, token, mark, mark_at, name}
 use Rattle.ftn_tree.specs.Grammar.{IsBetween, IsBefore, IsNumber, some_level, Spells, SpellsArgs, SpellsSection, IsExpression}
-use Rattle.expr_parse.specs.Input.{Input, Reader, Outcome, ◌>>=◌, after, sees, peek}
-use Rattle.expr_parse.specs.Operators.{next_operator, chained}
-use Rattle.expr_parse.specs.Reading as reading
+use Rattle.expr_parse.specs.steps.Input.{Input, Reader, Outcome, ◌>>=◌, after, sees, peek}
+use Rattle.expr_parse.specs.steps.Operators.{next_operator, chained}
+use Rattle.expr_parse.specs.steps.Reading as reading
 use Rattle.expr_parse.proofs.Pieces.{Took, bind_is}
 use Rattle.expr_parse.proofs.Tokens.{is_same}
 use Rattle.expr_parse.proofs.Chains.{chained_last}
-use Rattle.expr_parse.proofs.Inverse.{expr_of, args_back, part_back}
+use Rattle.ftn_tree.proofs.Inverse.{expr_of, args_back, part_back}
 use Rattle.expr_parse.proofs.Takes.{split_took, retold, no_longer, TookOne, took_token, peek_here, sees_here}
 use Rattle.expr_parse.proofs.Bindings.{Ordinary, power, only_power, each_binding, level_some, each_sign, operator_here, sign_here}
 use Rattle.expr_parse.proofs.Stops.{Stops, weaker, no_operator, no_power, stops_operator, no_sign_before, begun_some}

@@ -1,7 +1,8 @@
 -- Tokens that have the form of a primary are read as it, where this holds of the expressions inside.
-use Rattle.std.proofs.Common.{◌≡◌, refl, sym, ◌∙◌, ap, subst, arith, lit≤, ℕ, zero, suc, ◌≤◌, ◌<◌, ◌^◌, ℤ, pos, Bool, true, false, List, [], ◌∷◌, ◌++◌, length, Option, Some, None, append_assoc, if◌then◌else◌}
-use Rattle.std.specs.Prelude.{nat_lt}
+use Rattle.std.proofs.Common.{◌≡◌, refl, sym, ◌∙◌, ap, subst, arith, lit≤, ℕ, zero, suc, ◌≤◌, ℤ, pos, Bool, true, false, List, [], ◌∷◌, ◌++◌, length, Option, Some, None, append_assoc, if◌then◌else◌}
+use Rattle.std.specs.Prelude.{nat_le}
 use Rattle.std.proofs.lemmas.Grind.{common_steps}
+use Rattle.ftn_base.specs.Limits.{greatest_integer}
 use Rattle.ftn_tree.specs.declared.token.Token.{Token}
 use Rattle.ftn_tree.specs.declared.expr.Expr.{Expr}
 use Rattle.ftn_tree.specs.declared.expr.Expr.TheVariants as exprs
@@ -14,11 +15,11 @@ use Rattle.ftn_tree.specs.Breaks.{number_of}
 use Rattle.ftn_tree.specs.Trees.{Tree, Trees, Args, Section, End, no_args, args, none, more, no_section, section, no_end, end}
 use Rattle.ftn_tree.specs.Phrases.{nothing, ◌·◌, mark, mark_at, name, in_parens}
 use Rattle.ftn_tree.specs.Grammar.{IsNumber, some_level, Spells, SpellsArgs, SpellsMore, SpellsSection, SpellsEnd}
-use Rattle.expr_parse.specs.Input.{Input, Reader, ◌>>=◌, ◌>>◌, pure, after, after_if, sees, expect, eat, peek}
-use Rattle.expr_parse.specs.Combinators.{◌<$>◌, each_after_comma_from}
-use Rattle.expr_parse.specs.Reading as reading
+use Rattle.expr_parse.specs.steps.Input.{Input, Reader, ◌>>=◌, ◌>>◌, pure, after, after_if, sees, expect, eat, peek}
+use Rattle.expr_parse.specs.steps.Combinators.{◌<$>◌, each_after_comma_from}
+use Rattle.expr_parse.specs.steps.Reading as reading
 use Rattle.expr_parse.proofs.Pieces.{Took, bind_is}
-use Rattle.expr_parse.proofs.Inverse.{expr_of, args_back, exprs_of, part_back, end_back}
+use Rattle.ftn_tree.proofs.Inverse.{expr_of, args_back, exprs_of, part_back, end_back}
 use Rattle.expr_parse.proofs.Takes.{split_took, took_nothing, no_longer, Seen, took_mark, took_mark_at}
 use Rattle.expr_parse.proofs.Stops.{Stops, stops_close, stops_comma, stops_colon, close_no_colon, close_no_comma, comma_no_colon, colon_no_close, begun_no_close, begun_no_colon}
 
@@ -35,7 +36,7 @@ whole_is at i j here number value is_at next is =
     ∙ ap (λ number. Some (exprs.Whole number (pos (number_of here.value)), after i)) (sym is_at)
     ∙ ap (λ value. Some (exprs.Whole number value, after i)) (sym is.value_is)
     ∙ ap (λ next. Some (exprs.Whole number value, next)) next where
-      fits : (n : ℕ) → n < 2 ^ 31 → nat_lt n (2 ^ 31) ≡ true
+      fits : (n : ℕ) → n ≤ greatest_integer → nat_le n greatest_integer ≡ true
       fits n small = grind arith
 
 pub constant_here : (i : Input) (here : Token) (rest : List Token) (kind : Lexeme) → i.rest ≡ here ∷ rest → lexeme_of here ≡ kind → reading.constant i ≡ reading.take_one (reading.constant_by kind i.at here.value) i

@@ -3,9 +3,10 @@ use Rattle.std.proofs.Common.{◌≡◌, refl, ap, sym, ◌∙◌, arith, ℕ, z
 use Rattle.std.specs.Prelude.{nat_lt, filter, cond, IsTrue, ◌↔◌}
 use Rattle.std.proofs.lemmas.Bool.Decides.{nat_tests}
 use Rattle.std.proofs.lemmas.Grind.{common_steps}
+use Rattle.ftn_base.specs.Limits.{most_parentheses}
 use Rattle.ftn_tree.specs.declared.token.Token.{Token}
-use Rattle.ftn_tree.specs.Misfits.{is_open, is_close, deepest, IsDeep}
-use Rattle.expr_parse.specs.Faults.{one_if, deep_from, is_deep}
+use Rattle.ftn_tree.specs.Misfits.{is_open, is_close, IsDeep}
+use Rattle.expr_parse.specs.steps.Faults.{one_if, deep_from, is_deep}
 
 abbrev count : (Token → Bool) → List Token → ℕ
 count test row = length (filter test row)
@@ -19,10 +20,10 @@ count_more test here row = by (test here) where
 -- some front is too deep, where so many were opened and closed before
 record DeepAt (opened closed : ℕ) (row : List Token) : Type 0 where
   front : ℕ
-  many : deepest + (closed + count is_close (take front row)) < opened + count is_open (take front row)
+  many : most_parentheses + (closed + count is_close (take front row)) < opened + count is_open (take front row)
 
 -- a front of one token and more
-longer_front : (opened closed front : ℕ) (here : Token) (rest : List Token) → deepest + ((closed + one_if (is_close here)) + count is_close (take front rest)) < (opened + one_if (is_open here)) + count is_open (take front rest)
+longer_front : (opened closed front : ℕ) (here : Token) (rest : List Token) → most_parentheses + ((closed + one_if (is_close here)) + count is_close (take front rest)) < (opened + one_if (is_open here)) + count is_open (take front rest)
     → DeepAt opened closed (here ∷ rest)
 longer_front opened closed front here rest many = record {
   front = suc front;
@@ -30,47 +31,47 @@ longer_front opened closed front here rest many = record {
       (count_more is_close here (take front rest)) (count_more is_open here (take front rest)) many;
 } where
   by : (closes opens close_here open_here closes_after opens_after : ℕ) → closes ≡ close_here + closes_after → opens ≡ open_here + opens_after
-      → deepest + ((closed + close_here) + closes_after) < (opened + open_here) + opens_after → deepest + (closed + closes) < opened + opens
+      → most_parentheses + ((closed + close_here) + closes_after) < (opened + open_here) + opens_after → most_parentheses + (closed + closes) < opened + opens
   by closes opens close_here open_here closes_after opens_after a b c = omega arith
 
 deep_found : (row : List Token) (opened closed : ℕ) → deep_from opened closed row ≡ true → DeepAt opened closed row
 deep_found [] opened closed e = absurd (cc e)
-deep_found (here ∷ rest) opened closed e = by (nat_lt (deepest + (closed + one_if (is_close here))) (opened + one_if (is_open here))) refl e (λ e. deep_found rest (opened + one_if (is_open here)) (closed + one_if (is_close here)) e) where
-  at_once : (closes opens : ℕ) → nat_lt (deepest + closes) opens ≡ true → deepest + (closes + 0) < opens + 0
+deep_found (here ∷ rest) opened closed e = by (nat_lt (most_parentheses + (closed + one_if (is_close here))) (opened + one_if (is_open here))) refl e (λ e. deep_found rest (opened + one_if (is_open here)) (closed + one_if (is_close here)) e) where
+  at_once : (closes opens : ℕ) → nat_lt (most_parentheses + closes) opens ≡ true → most_parentheses + (closes + 0) < opens + 0
   at_once closes opens e = grind arith
 
-  by : (deep : Bool) → nat_lt (deepest + (closed + one_if (is_close here))) (opened + one_if (is_open here)) ≡ deep
+  by : (deep : Bool) → nat_lt (most_parentheses + (closed + one_if (is_close here))) (opened + one_if (is_open here)) ≡ deep
       → (deep || deep_from (opened + one_if (is_open here)) (closed + one_if (is_close here)) rest) ≡ true
       → (deep_from (opened + one_if (is_open here)) (closed + one_if (is_close here)) rest ≡ true → DeepAt (opened + one_if (is_open here)) (closed + one_if (is_close here)) rest) → DeepAt opened closed (here ∷ rest)
   by true deep e later = longer_front opened closed 0 here rest (at_once (closed + one_if (is_close here)) (opened + one_if (is_open here)) deep)
   by false deep e later = let found = later e in longer_front opened closed found.front here rest found.many
 
-empty_front : (opened closed : ℕ) → (deepest + closed < opened → ⊥) → deepest + (closed + 0) < opened + 0 → ⊥
+empty_front : (opened closed : ℕ) → (most_parentheses + closed < opened → ⊥) → most_parentheses + (closed + 0) < opened + 0 → ⊥
 empty_front opened closed small many = small (same many) where
-  same : deepest + (closed + 0) < opened + 0 → deepest + closed < opened
+  same : most_parentheses + (closed + 0) < opened + 0 → most_parentheses + closed < opened
   same many = omega arith
 
-deep_none : (row : List Token) (opened closed : ℕ) → deep_from opened closed row ≡ false → (deepest + closed < opened → ⊥) → (front : ℕ)
-    → deepest + (closed + count is_close (take front row)) < opened + count is_open (take front row) → ⊥
+deep_none : (row : List Token) (opened closed : ℕ) → deep_from opened closed row ≡ false → (most_parentheses + closed < opened → ⊥) → (front : ℕ)
+    → most_parentheses + (closed + count is_close (take front row)) < opened + count is_open (take front row) → ⊥
 deep_none [] opened closed e small zero many = empty_front opened closed small many
 deep_none [] opened closed e small (suc front) many = empty_front opened closed small many
 deep_none (here ∷ rest) opened closed e small zero many = empty_front opened closed small many
 deep_none (here ∷ rest) opened closed e small (suc front) many =
-    by (nat_lt (deepest + (closed + one_if (is_close here))) (opened + one_if (is_open here))) refl e
+    by (nat_lt (most_parentheses + (closed + one_if (is_close here))) (opened + one_if (is_open here))) refl e
     (λ e small many. deep_none rest (opened + one_if (is_open here)) (closed + one_if (is_close here)) e small front many) where
-      shallow : (closes opens : ℕ) → nat_lt (deepest + closes) opens ≡ false → deepest + closes < opens → ⊥
+      shallow : (closes opens : ℕ) → nat_lt (most_parentheses + closes) opens ≡ false → most_parentheses + closes < opens → ⊥
       shallow closes opens e many = absurd (cc (sym e ∙ is_lt many)) where
-        is_lt : deepest + closes < opens → nat_lt (deepest + closes) opens ≡ true
+        is_lt : most_parentheses + closes < opens → nat_lt (most_parentheses + closes) opens ≡ true
         is_lt many = grind arith
 
       onward : (closes opens close_here open_here closes_after opens_after : ℕ) → closes ≡ close_here + closes_after → opens ≡ open_here + opens_after
-          → deepest + (closed + closes) < opened + opens → deepest + ((closed + close_here) + closes_after) < (opened + open_here) + opens_after
+          → most_parentheses + (closed + closes) < opened + opens → most_parentheses + ((closed + close_here) + closes_after) < (opened + open_here) + opens_after
       onward closes opens close_here open_here closes_after opens_after a b c = omega arith
 
-      by : (deep : Bool) → nat_lt (deepest + (closed + one_if (is_close here))) (opened + one_if (is_open here)) ≡ deep
+      by : (deep : Bool) → nat_lt (most_parentheses + (closed + one_if (is_close here))) (opened + one_if (is_open here)) ≡ deep
           → (deep || deep_from (opened + one_if (is_open here)) (closed + one_if (is_close here)) rest) ≡ false
-          → (deep_from (opened + one_if (is_open here)) (closed + one_if (is_close here)) rest ≡ false → (deepest + (closed + one_if (is_close here)) < opened + one_if (is_open here) → ⊥)
-          → deepest + ((closed + one_if (is_close here)) + count is_close (take front rest)) < (opened + one_if (is_open here)) + count is_open (take front rest) → ⊥) → ⊥
+          → (deep_from (opened + one_if (is_open here)) (closed + one_if (is_close here)) rest ≡ false → (most_parentheses + (closed + one_if (is_close here)) < opened + one_if (is_open here) → ⊥)
+          → most_parentheses + ((closed + one_if (is_close here)) + count is_close (take front rest)) < (opened + one_if (is_open here)) + count is_open (take front rest) → ⊥) → ⊥
       by true deep e later = absurd (cc e)
       by false deep e later =
           later e (shallow (closed + one_if (is_close here)) (opened + one_if (is_open here)) deep)
@@ -80,16 +81,16 @@ deep_none (here ∷ rest) opened closed e small (suc front) many =
 deep_is : (row : List Token) → is_deep row ≡ true → IsDeep row
 unfolding is_deep
 deep_is row e = let found = deep_found row 0 0 e in record { front = found.front; many = by (count is_close (take found.front row)) (count is_open (take found.front row)) found.many } where
-  by : (closes opens : ℕ) → deepest + (0 + closes) < 0 + opens → deepest + closes < opens
+  by : (closes opens : ℕ) → most_parentheses + (0 + closes) < 0 + opens → most_parentheses + closes < opens
   by closes opens many = omega arith
 
 deep_not : (row : List Token) → is_deep row ≡ false → IsDeep row → ⊥
 unfolding is_deep
 deep_not row e deep = deep_none row 0 0 e none deep.front (by (count is_close (take deep.front row)) (count is_open (take deep.front row)) deep.many) where
-  none : deepest + 0 < 0 → ⊥
+  none : most_parentheses + 0 < 0 → ⊥
   none many = absurd (omega arith)
 
-  by : (closes opens : ℕ) → deepest + closes < opens → deepest + (0 + closes) < 0 + opens
+  by : (closes opens : ℕ) → most_parentheses + closes < opens → most_parentheses + (0 + closes) < 0 + opens
   by closes opens many = omega arith
 
 pub deep_decided : (row : List Token) (deep : Bool) → deep ≡ is_deep row → IsTrue deep ↔ IsDeep row
@@ -111,16 +112,16 @@ small_one false = omega arith
 not_less : (a b : ℕ) → b ≤ a → nat_lt a b ≡ false
 not_less a b le = grind (arith, nat_tests)
 
-few_from : (row : List Token) (opened closed : ℕ) → opened + length row ≤ deepest + closed → deep_from opened closed row ≡ false
+few_from : (row : List Token) (opened closed : ℕ) → opened + length row ≤ most_parentheses + closed → deep_from opened closed row ≡ false
 few_from [] opened closed few = refl
 few_from (here ∷ rest) opened closed few =
     let one : one_if (is_open here) ≤ 1 = small_one (is_open here) in
-    let le : opened + one_if (is_open here) ≤ deepest + (closed + one_if (is_close here)) = omega arith in
-    let more : (opened + one_if (is_open here)) + length rest ≤ deepest + (closed + one_if (is_close here)) = omega arith in
-    ap (λ deep. deep || deep_from (opened + one_if (is_open here)) (closed + one_if (is_close here)) rest) (not_less (deepest + (closed + one_if (is_close here))) (opened + one_if (is_open here)) le)
+    let le : opened + one_if (is_open here) ≤ most_parentheses + (closed + one_if (is_close here)) = omega arith in
+    let more : (opened + one_if (is_open here)) + length rest ≤ most_parentheses + (closed + one_if (is_close here)) = omega arith in
+    ap (λ deep. deep || deep_from (opened + one_if (is_open here)) (closed + one_if (is_close here)) rest) (not_less (most_parentheses + (closed + one_if (is_close here))) (opened + one_if (is_open here)) le)
     ∙ few_from rest (opened + one_if (is_open here)) (closed + one_if (is_close here)) more
 
 -- at most 200 tokens don't nest too deep
-pub few_shallow : (row : List Token) → length row ≤ 200 → false ≡ is_deep row
+pub few_shallow : (row : List Token) → length row ≤ most_parentheses → false ≡ is_deep row
 unfolding is_deep
-few_shallow row few = let less : 0 + length row ≤ deepest + 0 = omega arith in sym (few_from row 0 0 less)
+few_shallow row few = let less : 0 + length row ≤ most_parentheses + 0 = omega arith in sym (few_from row 0 0 less)

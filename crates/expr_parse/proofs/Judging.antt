@@ -1,14 +1,15 @@
 -- What is answered of whole rows of tokens, from the laws of their reader.
 use Rattle.std.proofs.Common.{◌≡◌, refl, sym, ◌∙◌, ap, subst, ℕ, ◌+◌, Bool, true, false, List, [], length, Some, None, Ok, Err, if◌then◌else◌}
 use Rattle.std.specs.Prelude.{IsTrue, ◌↔◌}
+use Rattle.std.proofs.lemmas.Option.{some_pair_parts}
 use Rattle.ftn_tree.specs.declared.token.Token.{Token}
 use Rattle.ftn_tree.specs.Misfits.{IsDeep, is_outside}
 use Rattle.expr_parse.specs.declared.fault.StatementFault.{StatementFault}
 use Rattle.expr_parse.specs.declared.fault.StatementFault.TheVariants.{NotAStatement, OutOfProfile, TooDeep}
-use Rattle.expr_parse.specs.Input.{Input, input}
-use Rattle.expr_parse.specs.Combinators.{to_the_end}
+use Rattle.expr_parse.specs.steps.Input.{Input, input}
+use Rattle.expr_parse.specs.steps.Combinators.{to_the_end}
 use Rattle.expr_parse.specs.Exact.{FitsNone, IsExact, misfit}
-use Rattle.expr_parse.proofs.Pieces.{Piece, some_pair}
+use Rattle.expr_parse.proofs.Pieces.{Piece}
 use Rattle.expr_parse.proofs.Ends.{whole_sound, whole_complete}
 use Rattle.expr_parse.proofs.Deep.{decided_deep, decided_shallow}
 
@@ -18,7 +19,7 @@ module _ {A : Type 0} (piece : Piece A) (at : ℕ) (tokens : List Token) (shallo
   exact_read a j read = (
     shallow,
     whole_sound piece at tokens a j read,
-    λ b says. (some_pair b a (input (at + length tokens) []) j (sym (whole_complete piece at tokens b says) ∙ read)).0,
+    λ b says. (some_pair_parts b a (input (at + length tokens) []) j (sym (whole_complete piece at tokens b says) ∙ read)).0,
   )
 
   none_fits : to_the_end piece.read (input at tokens) ≡ None → FitsNone piece.phrase at tokens

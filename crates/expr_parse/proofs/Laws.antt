@@ -1,5 +1,6 @@
 -- The laws of the readers of expressions and of references.
-use Rattle.std.proofs.Common.{◌≡◌, refl, sym, ◌∙◌, ap, subst, arith, ℕ, suc, ◌+◌, ◌≤◌, Bool, true, false, not, List, [], ◌∷◌, ◌++◌, length, Some}
+use Rattle.std.proofs.Common.{◌≡◌, refl, sym, ◌∙◌, ap, subst, arith, ℕ, suc, ◌+◌, ◌≤◌, true, false, not, List, [], ◌∷◌, ◌++◌, length, Some}
+use Rattle.std.proofs.lemmas.Bool.{not-true, not_from_false}
 use Rattle.ftn_tree.specs.declared.token.Token.{Token}
 use Rattle.ftn_tree.specs.declared.expr.Expr.{Expr, out-Expr}
 use Rattle.ftn_tree.specs.declared.expr.Expr.TheVariants as exprs
@@ -13,14 +14,14 @@ use Rattle.ftn_tree.specs.Trees.{Tree, Args, Section, refer, tree_of}
 use Rattle.ftn_tree.specs.Phrases.{Phrase, ◌·◌, name}
 use Rattle.ftn_tree.specs.Expressions.{is_reference, is_reference_at}
 use Rattle.ftn_tree.specs.Layers.{ExprLayer}
-use Rattle.ftn_tree.specs.Grammar.{Spells, SpellsArgs, SpellsSection, IsExpression, expr}
+use Rattle.ftn_tree.specs.Grammar.{SpellsArgs, SpellsSection, IsExpression, expr}
 use Rattle.ftn_tree.specs.Grammar as grammar
-use Rattle.expr_parse.specs.Input.{input, sees, peek}
-use Rattle.expr_parse.specs.Reading as reading
+use Rattle.expr_parse.specs.steps.Input.{input, sees, peek}
+use Rattle.expr_parse.specs.steps.Reading as reading
 use Rattle.expr_parse.proofs.Pieces.{Piece, Took, begins}
 use Rattle.expr_parse.proofs.AllKinds.{within}
 use Rattle.expr_parse.proofs.Operands.{goes_on, opens, name_first, ReadsExpressions, ReadsReferences, expression_piece, reference_piece}
-use Rattle.expr_parse.proofs.Inverse.{expr_of, args_tree, part_tree, same_expr, tree_refer}
+use Rattle.ftn_tree.proofs.Inverse.{expr_of, args_tree, part_tree, same_expr, tree_refer}
 use Rattle.expr_parse.proofs.Stops.{Stops, looser}
 use Rattle.expr_parse.proofs.SoundLevels.{sound_expression, sound_reference}
 use Rattle.expr_parse.proofs.CompleteRules.{complete_named}
@@ -28,20 +29,12 @@ use Rattle.expr_parse.proofs.CompleteLevels.{complete_read, complete_expression}
 
 -- ---- what follows
 
-not_true : (a : Bool) → not a ≡ true → a ≡ false
-not_true true e = sym e
-not_true false e = refl
-
-is_not : (a : Bool) → a ≡ false → not a ≡ true
-is_not false e = refl
-is_not true e = sym e
-
 unopened_kind : (kind : Lexeme) → goes_on kind ≡ false → same_lexeme kind lexeme.Open ≡ false
 unfolding same_lexeme
-unopened_kind kind e = not_true (same_lexeme kind lexeme.Open) (within (λ kind. not (goes_on kind)) (λ kind. not (same_lexeme kind lexeme.Open)) refl kind (is_not (goes_on kind) e))
+unopened_kind kind e = not-true (same_lexeme kind lexeme.Open) (within (λ kind. not (goes_on kind)) (λ kind. not (same_lexeme kind lexeme.Open)) refl kind (not_from_false (goes_on kind) e))
 
 loose_kind : (kind : Lexeme) → goes_on kind ≡ false → looser loosest (between kind) ≡ true
-loose_kind kind e = within (λ kind. not (goes_on kind)) (λ kind. looser loosest (between kind)) refl kind (is_not (goes_on kind) e)
+loose_kind kind e = within (λ kind. not (goes_on kind)) (λ kind. looser loosest (between kind)) refl kind (not_from_false (goes_on kind) e)
 
 stops_whole : (at : ℕ) (rest : List Token) → begins goes_on rest ≡ false → Stops loosest (input at rest)
 unfolding sees peek
@@ -50,7 +43,7 @@ stops_whole at (here ∷ rest) e = record { unopened = unopened_kind (lexeme_of 
 
 closed_kind : (kind : Lexeme) → opens kind ≡ false → same_lexeme kind lexeme.Open ≡ false
 unfolding same_lexeme
-closed_kind kind e = not_true (same_lexeme kind lexeme.Open) (within (λ kind. not (opens kind)) (λ kind. not (same_lexeme kind lexeme.Open)) refl kind (is_not (opens kind) e))
+closed_kind kind e = not-true (same_lexeme kind lexeme.Open) (within (λ kind. not (opens kind)) (λ kind. not (same_lexeme kind lexeme.Open)) refl kind (not_from_false (opens kind) e))
 
 unopened : (at : ℕ) (rest : List Token) → begins opens rest ≡ false → sees lexeme.Open (input at rest) ≡ false
 unfolding sees

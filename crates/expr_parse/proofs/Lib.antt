@@ -8,7 +8,6 @@ pub mod Parens
 pub mod Ends
 pub mod Commas
 pub mod Operands
-pub mod Inverse
 pub mod Takes
 pub mod Bindings
 pub mod Sound
@@ -20,3 +19,4 @@ pub mod CompleteLevels
 pub mod Laws
 pub mod Deep
 pub mod Judging
+pub mod Fitting

@@ -1,14 +1,16 @@
 -- Pieces of lists with commas.
 use Rattle.std.proofs.Common.{◌≡◌, refl, sym, ◌∙◌, ap, subst, arith, ℕ, zero, suc, ◌+◌, ◌≤◌, Bool, true, false, ◌||◌, List, [], ◌∷◌, ◌++◌, length, Some, append_assoc, ◌⊎◌, inl, inr, if◌then◌else◌}
 use Rattle.std.proofs.lemmas.Grind.{common_steps}
+use Rattle.std.proofs.lemmas.List.{append-nil}
+use Rattle.std.proofs.lemmas.Option.{some_pair_parts}
 use Rattle.ftn_tree.specs.declared.token.Token.{Token}
 use Rattle.ftn_tree.specs.declared.lexeme.Lexeme.{Lexeme}
 use Rattle.ftn_tree.specs.declared.lexeme.Lexeme.TheVariants.{Comma}
 use Rattle.ftn_tree.specs.Lexemes.{lexeme_of}
 use Rattle.ftn_tree.specs.Phrases.{Phrase, nothing, ◌·◌, mark, commas, after_commas}
-use Rattle.expr_parse.specs.Input.{Input, input, Reader, ◌>>=◌, pure, taken_if, after, after_if, sees, expect, eat}
-use Rattle.expr_parse.specs.Combinators.{separated, separated_from}
-use Rattle.expr_parse.proofs.Pieces.{Piece, Took, Apart, begins, begins_or, begins_after, bind_some, bind_is, some_pair, took_both}
+use Rattle.expr_parse.specs.steps.Input.{Input, input, Reader, ◌>>=◌, pure, taken_if, after, after_if, sees, expect, eat}
+use Rattle.expr_parse.specs.steps.Combinators.{separated, separated_from}
+use Rattle.expr_parse.proofs.Pieces.{Piece, Took, Apart, begins, begins_or, begins_after, bind_some, bind_is, took_both}
 use Rattle.expr_parse.proofs.Tokens.{only, mark_piece, bare_made, is_same}
 
 -- a mark that is seen is taken
@@ -57,7 +59,7 @@ module _ {A : Type 0} (piece : Piece A) (filled : piece.empty ≡ false) (apart 
                 (took_both (mark Comma) (piece.phrase later.first · after_commas piece.phrase later.rest) k (after k) j (took_mark Comma k there) later.took);
           }
       by false there =
-          let same = some_pair (found ++ a ∷ []) all k j (sym (ap (λ there. (if there then separated_from piece.read n (found ++ a ∷ []) else pure (found ++ a ∷ [])) (after_if there k)) there) ∙ next) in
+          let same = some_pair_parts (found ++ a ∷ []) all k j (sym (ap (λ there. (if there then separated_from piece.read n (found ++ a ∷ []) else pure (found ++ a ∷ [])) (after_if there k)) there) ∙ next) in
           record {
             first = a;
             rest = [];
@@ -120,9 +122,7 @@ module _ {A : Type 0} (piece : Piece A) (filled : piece.empty ≡ false) (apart 
   few n at a before later comma e = grind (arith, common_steps)
 
   none_left : (tokens before : List Token) → tokens ≡ before ++ [] → before ≡ tokens
-  none_left tokens before e = sym (e ∙ append_none before) where
-    append_none : (before : List Token) → before ++ [] ≡ before
-    append_none before = grind (arith, common_steps)
+  none_left tokens before e = sym (e ∙ append-nil before)
 
   too_few : (tokens : List Token) → 1 ≤ length tokens → length tokens ≤ 0 → ⊥
   too_few tokens e f = grind (arith, common_steps)

@@ -9,8 +9,8 @@ use Rattle.ftn_tree.specs.Levels.{Binding, Prefix, between, before}
 use Rattle.ftn_tree.specs.Trees.{Tree, whole, truth, quoted, paren, unary, binary, refer, tree_of}
 use Rattle.ftn_tree.specs.Grammar.{Spells, IsExpression, expr, IsBefore, truth_lexeme}
 use Rattle.ftn_tree.specs.Grammar as grammar
-use Rattle.expr_parse.specs.Input.{Input, input}
-use Rattle.expr_parse.specs.Reading.{expression, reference}
+use Rattle.expr_parse.specs.steps.Input.{Input, input}
+use Rattle.expr_parse.specs.steps.Reading.{expression, reference}
 use Rattle.expr_parse.proofs.Pieces.{Piece, Took, begins, begins_after}
 
 -- what an expression begins with

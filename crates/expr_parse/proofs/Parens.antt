@@ -1,12 +1,14 @@
 -- Pieces of lists in parentheses that may be empty.
-use Rattle.std.proofs.Common.{◌≡◌, refl, sym, ◌∙◌, ap, subst, ℕ, ◌+◌, Bool, true, false, ◌||◌, ◌&&◌, List, [], ◌∷◌, ◌++◌, length, Some, ◌⊎◌, inl, inr, if◌then◌else◌}
+use Rattle.std.proofs.Common.{◌≡◌, refl, sym, ◌∙◌, ap, subst, ℕ, ◌+◌, Bool, true, false, ◌||◌, ◌&&◌, List, [], ◌∷◌, ◌++◌, length, Some, ◌⊎◌, inl, inr, if◌then◌else◌, add-zero}
+use Rattle.std.proofs.lemmas.Bool.{or_right, or_left}
+use Rattle.std.proofs.lemmas.Option.{some_pair_parts}
 use Rattle.ftn_tree.specs.declared.token.Token.{Token}
 use Rattle.ftn_tree.specs.declared.lexeme.Lexeme.TheVariants.{Comma, Open, Close}
 use Rattle.ftn_tree.specs.Lexemes.{lexeme_of}
 use Rattle.ftn_tree.specs.Phrases.{Phrase, ◌·◌, mark, commas_or_none}
-use Rattle.expr_parse.specs.Input.{Input, input, Reader, ◌>>=◌, ◌>>◌, pure, after, after_if, sees, expect}
-use Rattle.expr_parse.specs.Combinators.{separated, rest_of_list}
-use Rattle.expr_parse.proofs.Pieces.{Piece, Took, Apart, begins, some_pair, plus_none}
+use Rattle.expr_parse.specs.steps.Input.{Input, input, Reader, ◌>>=◌, ◌>>◌, pure, after, after_if, sees, expect}
+use Rattle.expr_parse.specs.steps.Combinators.{separated, rest_of_list}
+use Rattle.expr_parse.proofs.Pieces.{Piece, Took, Apart, begins}
 use Rattle.expr_parse.proofs.Tokens.{only, before_mark, after_mark, is_same}
 use Rattle.expr_parse.proofs.Lists.{took_mark, list, list_more}
 
@@ -29,10 +31,10 @@ module _ {A : Type 0} (piece : Piece A) (filled : piece.empty ≡ false) (apart 
   sound_rest i all j e = by (sees Close i) refl where
     by : (none : Bool) → sees Close i ≡ none → Took (rest_phrase all) i j
     by true none =
-        let same = some_pair [] all (after i) j (sym (ap (λ none. choice none (after_if none i)) none) ∙ e) in
+        let same = some_pair_parts [] all (after i) j (sym (ap (λ none. choice none (after_if none i)) none) ∙ e) in
         let took = took_mark Close i none in
         subst (λ all. Took (rest_phrase all) i j) same.0 (subst (λ j. Took (rest_phrase []) i j) same.1
-        (record { tokens = took.tokens; rest = took.rest; at = took.at; says = ([], took.tokens, refl, refl, subst (λ at. mark Close at took.tokens) (sym (plus_none i.at)) took.says) }))
+        (record { tokens = took.tokens; rest = took.rest; at = took.at; says = ([], took.tokens, refl, refl, subst (λ at. mark Close at took.tokens) (sym (add-zero i.at)) took.says) }))
     by false none =
         let took = items.sound i all j (sym (ap (λ none. choice none (after_if none i)) none) ∙ e) in
         record { tokens = took.tokens; rest = took.rest; at = took.at; says = rest_of_items all i.at took.tokens took.says }
@@ -40,21 +42,14 @@ module _ {A : Type 0} (piece : Piece A) (filled : piece.empty ≡ false) (apart 
   pub begun_rest : (all : List A) (at : ℕ) (tokens : List Token) → rest_phrase all at tokens → (begins (λ kind. piece.first kind || only Close kind) tokens ≡ true) ⊎ ((tokens ≡ []) × (false ≡ true))
   begun_rest [] at tokens (before, after, split, none, (close, is_one, is_close)) =
       inl (subst (λ tokens. begins (λ kind. piece.first kind || only Close kind) tokens ≡ true) (sym (split ∙ ap (λ before. before ++ after) none ∙ is_one))
-      (or_second (piece.first (lexeme_of close)) (only Close (lexeme_of close)) (is_same (lexeme_of close) Close is_close))) where
-        or_second : (a b : Bool) → b ≡ true → (a || b) ≡ true
-        or_second true b e = refl
-        or_second false b e = e
+      (or_right (piece.first (lexeme_of close)) (only Close (lexeme_of close)) (is_same (lexeme_of close) Close is_close)))
   begun_rest (a ∷ more) at tokens says = by tokens (items.begun (a ∷ more) at tokens says) where
     by : (tokens : List Token) → (begins items.first tokens ≡ true) ⊎ ((tokens ≡ []) × (items.empty ≡ true)) → (begins (λ kind. piece.first kind || only Close kind) tokens ≡ true) ⊎ ((tokens ≡ []) × (false ≡ true))
     by [] (inl e) = absurd (cc e)
-    by (here ∷ rest) (inl e) = inl (or_first (piece.first (lexeme_of here)) (only Close (lexeme_of here)) (strip (piece.first (lexeme_of here)) e)) where
+    by (here ∷ rest) (inl e) = inl (or_left (piece.first (lexeme_of here)) (only Close (lexeme_of here)) (strip (piece.first (lexeme_of here)) e)) where
       strip : (a : Bool) → (a || (false && only Close (lexeme_of here))) ≡ true → a ≡ true
       strip true e = refl
       strip false e = e
-
-      or_first : (a b : Bool) → a ≡ true → (a || b) ≡ true
-      or_first true b e = refl
-      or_first false b e = absurd (cc e)
     by tokens (inr e) = absurd (cc e.1)
 
   pub complete_rest : (all : List A) (at : ℕ) (tokens rest : List Token) → rest_phrase all at tokens → begins (λ kind. false) rest ≡ false

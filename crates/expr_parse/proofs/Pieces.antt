@@ -1,13 +1,16 @@
 -- Phrases with their readers. A piece says what a reader reads: what it gives is a phrase of exactly the tokens that it took, and
 -- where tokens are the phrase of a value, and what follows can't go on with it, the reader gives this value.
-use Rattle.std.proofs.Common.{◌≡◌, refl, sym, ◌∙◌, ap, subst, arith, ℕ, ◌+◌, Bool, true, false, ◌||◌, ◌&&◌, List, [], ◌∷◌, ◌++◌, length, drop, Option, Some, None, append_assoc, ◌⊎◌, inl, inr, if◌then◌else◌}
+use Rattle.std.proofs.Common.{◌≡◌, refl, sym, ◌∙◌, ap, subst, arith, ℕ, ◌+◌, Bool, true, false, ◌||◌, ◌&&◌, List, [], ◌∷◌, ◌++◌, length, drop, Option, Some, None, append_assoc, ◌⊎◌, inl, inr, if◌then◌else◌, add-zero}
 use Rattle.std.proofs.lemmas.Grind.{common_steps}
+use Rattle.std.proofs.lemmas.Option.{some_pair_parts}
+use Rattle.std.proofs.lemmas.Bool.{and_from}
 use Rattle.ftn_tree.specs.declared.token.Token.{Token}
 use Rattle.ftn_tree.specs.declared.lexeme.Lexeme.{Lexeme}
 use Rattle.ftn_tree.specs.Lexemes.{lexeme_of, same_lexeme}
 use Rattle.ftn_tree.specs.Phrases.{Phrase, nothing, ◌·◌, token, maybe}
-use Rattle.expr_parse.specs.Input.{Input, input, Reader, Outcome, and_then, ◌>>=◌, ◌>>◌, pure, holds_first, taken_if, after, sees}
-use Rattle.expr_parse.specs.Combinators.{◌<$>◌, ◌⊗◌, option_if}
+use Rattle.ftn_tree.proofs.PhraseLaws.{placed}
+use Rattle.expr_parse.specs.steps.Input.{Input, input, Reader, Outcome, and_then, ◌>>=◌, ◌>>◌, pure, holds_first, taken_if, after, sees}
+use Rattle.expr_parse.specs.steps.Combinators.{◌<$>◌, ◌⊗◌, option_if}
 
 -- the first of these tokens, if there is one, is such
 abbrev pub begins : (Lexeme → Bool) → List Token → Bool
@@ -46,7 +49,7 @@ pub begins_after : (kinds : Lexeme → Bool) (one rest : List Token) → begins 
 begins_after kinds [] rest e = absurd (cc e)
 begins_after kinds (here ∷ one) rest e = e
 
-apart_from : (one other : Lexeme → Bool) (tokens : List Token) → Apart one other → begins one tokens ≡ true → begins other tokens ≡ false
+pub apart_from : (one other : Lexeme → Bool) (tokens : List Token) → Apart one other → begins one tokens ≡ true → begins other tokens ≡ false
 apart_from one other [] apart e = refl
 apart_from one other (here ∷ rest) apart e = apart (lexeme_of here) e
 
@@ -66,12 +69,6 @@ pub begins_or : (one other : Lexeme → Bool) (tokens : List Token) → begins (
 begins_or one other [] e = (refl, refl)
 begins_or one other (here ∷ rest) e = (or_left (one (lexeme_of here)) (other (lexeme_of here)) e, or_right (one (lexeme_of here)) (other (lexeme_of here)) e)
 
-pub plus_none : (at : ℕ) → at + 0 ≡ at
-plus_none at = grind (arith, common_steps)
-
-pub placed : (at : ℕ) (one other : List Token) → (at + length one) + length other ≡ at + length (one ++ other)
-placed at one other = grind (arith, common_steps)
-
 pub took_both : (one other : Phrase) (i j k : Input) → Took one i j → Took other j k → Took (one · other) i k
 took_both one other i j k a b = record {
   tokens = a.tokens ++ b.tokens;
@@ -80,7 +77,7 @@ took_both one other i j k a b = record {
   says = (a.tokens, b.tokens, refl, a.says, subst (λ at. other at b.tokens) a.at b.says);
 }
 
-begins_left : (one other : Lexeme → Bool) (tokens : List Token) → begins one tokens ≡ true → begins (λ kind. one kind || other kind) tokens ≡ true
+pub begins_left : (one other : Lexeme → Bool) (tokens : List Token) → begins one tokens ≡ true → begins (λ kind. one kind || other kind) tokens ≡ true
 begins_left one other [] e = e
 begins_left one other (here ∷ rest) e = ap (λ b. b || other (lexeme_of here)) e
 
@@ -88,7 +85,7 @@ or_true : (a : Bool) → (a || true) ≡ true
 or_true true = refl
 or_true false = refl
 
-begins_right : (one other : Lexeme → Bool) (tokens : List Token) → begins other tokens ≡ true → begins (λ kind. one kind || other kind) tokens ≡ true
+pub begins_right : (one other : Lexeme → Bool) (tokens : List Token) → begins other tokens ≡ true → begins (λ kind. one kind || other kind) tokens ≡ true
 begins_right one other [] e = e
 begins_right one other (here ∷ rest) e = ap (λ b. one (lexeme_of here) || b) e ∙ or_true (one (lexeme_of here))
 
@@ -100,23 +97,8 @@ pub stops_before : (first more : Lexeme → Bool) (after rest : List Token) → 
 stops_before first more [] rest apart e = absurd (cc e)
 stops_before first more (here ∷ after) rest apart e = apart (lexeme_of here) e
 
-abbrev first_or : {A B : Type 0} → A → Option (A × B) → A
-first_or a None = a
-first_or a (Some found) = found.0
-
-abbrev second_or : {A B : Type 0} → B → Option (A × B) → B
-second_or b None = b
-second_or b (Some found) = found.1
-
-pub some_pair : {A B : Type 0} (a c : A) (b d : B) → ◌≡◌ {A = Option (A × B)} (Some (a, b)) (Some (c, d)) → (a ≡ c) × (b ≡ d)
-some_pair {A} {B} a c b d e = (ap (first_or a) e, ap (second_or b) e)
-
 pub bind_is : {A B : Type 0} (one : Outcome A) (next : A → Reader B) (a : A) (k : Input) (gives : Outcome B) → one ≡ Some (a, k) → next a k ≡ gives → and_then one next ≡ gives
 bind_is one next a k gives e f = ap (λ found. and_then found next) e ∙ f
-
-both_empty : (one other : Bool) → one ≡ true → other ≡ true → (one && other) ≡ true
-both_empty true other e f = f
-both_empty false other e f = absurd (cc e)
 
 module _ {A B : Type 0} (one : Piece A) (other : Piece B) where
   pair_first : Lexeme → Bool
@@ -133,7 +115,7 @@ module _ {A B : Type 0} (one : Piece A) (other : Piece B) where
     by_other none empty (inl first) = inl (subst (λ tokens. begins (λ kind. one.first kind || (one.empty && other.first kind)) tokens ≡ true)
         (sym (split ∙ ap (λ before. before ++ after) none))
         (begins_right one.first (λ kind. one.empty && other.first kind) after (sym (begins_and one.empty other.first after empty) ∙ first)))
-    by_other none empty (inr last) = inr (split ∙ ap (λ before. before ++ after) none ∙ last.0, both_empty one.empty other.empty empty last.1)
+    by_other none empty (inr last) = inr (split ∙ ap (λ before. before ++ after) none ∙ last.0, and_from one.empty other.empty empty last.1)
 
     by_one : (begins one.first before ≡ true) ⊎ ((before ≡ []) × (one.empty ≡ true))
         → (begins (λ kind. one.first kind || (one.empty && other.first kind)) tokens ≡ true) ⊎ ((tokens ≡ []) × ((one.empty && other.empty) ≡ true))
@@ -145,7 +127,7 @@ module _ {A B : Type 0} (one : Piece A) (other : Piece B) where
   sound_seq i both j e =
       let s = bind_some (one.read i) (λ a. other.read >>= (λ b. pure (a, b))) both j e in
       let t = bind_some (other.read s.1) (λ b. pure (s.0, b)) both j s.3 in
-      let same = some_pair (s.0, t.0) both t.1 j t.3 in
+      let same = some_pair_parts (s.0, t.0) both t.1 j t.3 in
       let took = took_both (one.phrase s.0) (other.phrase t.0) i s.1 t.1 (one.sound i s.0 s.1 s.2) (other.sound s.1 t.0 t.1 t.2) in
       subst (λ both. Took (one.phrase both.0 · other.phrase both.1) i j) same.0 (subst (λ j. Took (one.phrase s.0 · other.phrase t.0) i j) same.1 took)
 
@@ -197,7 +179,7 @@ module _ (test : Token → Bool) (first : Lexeme → Bool) (only : (here : Token
 
   took_one : (at : ℕ) (here : Token) (rest : List Token) (a : ℕ) (j : Input) → test here ≡ true → ◌≡◌ {A = Option (ℕ × Input)} (Some (at, input (at + 1) rest)) (Some (a, j)) → Took (one_phrase a) (input at (here ∷ rest)) j
   took_one at here rest a j holds e =
-      let same = some_pair at a (input (at + 1) rest) j e in
+      let same = some_pair_parts at a (input (at + 1) rest) j e in
       subst (λ j. Took (one_phrase a) (input at (here ∷ rest)) j) same.1 (record {
         tokens = here ∷ [];
         rest = refl;
@@ -241,7 +223,7 @@ module _ {A B : Type 0} (piece : Piece A) (f : A → B) (phrase : B → Phrase)
   pub sound_mapped : (i : Input) (b : B) (j : Input) → (f <$> piece.read) i ≡ Some (b, j) → Took (phrase b) i j
   sound_mapped i b j e =
       let s = bind_some (piece.read i) (λ a. pure (f a)) b j e in
-      let same = some_pair (f s.0) b s.1 j s.3 in
+      let same = some_pair_parts (f s.0) b s.1 j s.3 in
       let took = piece.sound i s.0 s.1 s.2 in
       subst (λ b. Took (phrase b) i j) same.0 (subst (λ j. Took (phrase (f s.0)) i j) same.1
       (record { tokens = took.tokens; rest = took.rest; at = took.at; says = made s.0 i.at took.tokens took.says }))
@@ -290,7 +272,7 @@ module _ {A : Type 0} (piece : Piece A) (kind : Lexeme)
 
   took_none : (i : Input) (a : Option A) (j : Input) → ◌≡◌ {A = Option (Option A × Input)} (Some (None, i)) (Some (a, j)) → Took (maybe piece.phrase a) i j
   took_none i a j e =
-      let same = some_pair None a i j e in
+      let same = some_pair_parts None a i j e in
       subst (λ a. Took (maybe piece.phrase a) i j) same.0 (subst (λ j. Took nothing i j) same.1 (record { tokens = []; rest = refl; at = grind (arith, common_steps); says = refl }))
 
   pub sound_option : (i : Input) (a : Option A) (j : Input) → option_if kind piece.read i ≡ Some (a, j) → Took (maybe piece.phrase a) i j
@@ -298,7 +280,7 @@ module _ {A : Type 0} (piece : Piece A) (kind : Lexeme)
     found : (Some <$> piece.read) i ≡ Some (a, j) → Took (maybe piece.phrase a) i j
     found e =
         let s = bind_some (piece.read i) (λ a. pure (Some a)) a j e in
-        let same = some_pair (Some s.0) a s.1 j s.3 in
+        let same = some_pair_parts (Some s.0) a s.1 j s.3 in
         subst (λ a. Took (maybe piece.phrase a) i j) same.0 (subst (λ j. Took (piece.phrase s.0) i j) same.1 (piece.sound i s.0 s.1 s.2))
 
     by : (there : Bool) → sees kind i ≡ there → Took (maybe piece.phrase a) i j
@@ -311,7 +293,7 @@ module _ {A : Type 0} (piece : Piece A) (kind : Lexeme)
   complete_option None at tokens rest says stops =
       let unseen = (begins_or is_kind piece.more rest stops).0 in
       let here = ap (λ there. if there then (Some <$> piece.read) (input at rest) else Some (None, input at rest)) unseen in
-      let placed_at = here ∙ ap (λ place. Some (None, input place rest)) (sym (plus_none at)) in
+      let placed_at = here ∙ ap (λ place. Some (None, input place rest)) (sym (add-zero at)) in
       subst (λ tokens. option_if kind piece.read (input at (tokens ++ rest)) ≡ Some (None, input (at + length tokens) rest)) (sym says) placed_at
   complete_option (Some a) at tokens rest says stops = by (begun_option (Some a) at tokens says) where
     read_some : (Some <$> piece.read) (input at (tokens ++ rest)) ≡ Some (Some a, input (at + length tokens) rest)

@@ -1,6 +1,7 @@
 -- What is read is the expression of exactly the tokens that were taken.
-use Rattle.std.proofs.Common.{◌≡◌, refl, sym, subst, arith, ℕ, ◌<◌, ◌^◌, pos, Bool, true, false, List, [], ◌∷◌, Option, Some, None, if◌then◌else◌}
-use Rattle.std.specs.Prelude.{nat_lt}
+use Rattle.std.proofs.Common.{◌≡◌, refl, sym, subst, arith, ℕ, ◌≤◌, pos, Bool, true, false, List, [], ◌∷◌, Option, Some, None, if◌then◌else◌}
+use Rattle.std.specs.Prelude.{nat_le}
+use Rattle.ftn_base.specs.Limits.{greatest_integer}
 use Rattle.ftn_tree.specs.declared.token.Token.{Token}
 use Rattle.ftn_tree.specs.declared.expr.Expr.{Expr}
 use Rattle.ftn_tree.specs.declared.expr.Expr.TheVariants as exprs
@@ -11,10 +12,10 @@ use Rattle.ftn_tree.specs.Breaks.{number_of}
 use Rattle.ftn_tree.specs.Trees.{Tree, whole, truth, quoted, tree_of}
 use Rattle.ftn_tree.specs.Phrases.{Phrase, token}
 use Rattle.ftn_tree.specs.Grammar.{IsNumber, truth_lexeme, Spells}
-use Rattle.expr_parse.specs.Input.{Input, after}
-use Rattle.expr_parse.specs.Reading as reading
+use Rattle.expr_parse.specs.steps.Input.{Input, after}
+use Rattle.expr_parse.specs.steps.Reading as reading
 use Rattle.expr_parse.proofs.Pieces.{Took}
-use Rattle.expr_parse.proofs.Inverse.{tree_whole, tree_truth, tree_quoted}
+use Rattle.ftn_tree.proofs.Inverse.{tree_whole, tree_truth, tree_quoted}
 use Rattle.expr_parse.proofs.Takes.{retold, token_took, given}
 
 -- ---- constants
@@ -28,13 +29,13 @@ module _ (i : Input) (here : Token) (rest : List Token) (row : i.rest ≡ here �
   read_as tree holds made is tell says e =
       given (λ found. Spells (tree_of found) 0) made found i (after i) j e (spelled tree made (token holds) i (after i) is tell (token_took holds i here rest row says))
 
-  read_whole : lexeme_of here ≡ lexeme.Whole → (small : Bool) → nat_lt (number_of here.value) (2 ^ 31) ≡ small
+  read_whole : lexeme_of here ≡ lexeme.Whole → (small : Bool) → nat_le (number_of here.value) greatest_integer ≡ small
       → reading.take_one (reading.whole_at i.at (if small then Some (pos (number_of here.value)) else None)) i ≡ Some (found, j) → Took (Spells (tree_of found) 0) i j
   read_whole kind true small e =
       let value = pos (number_of here.value) in
       read_as (whole i.at value) (λ at here. (i.at ≡ at) × IsNumber here value) (exprs.Whole i.at value) (tree_whole i.at value) (λ at tokens says. (refl, says))
       (refl, record { digits = kind; value_is = refl; small = below (number_of here.value) small }) e where
-        below : (n : ℕ) → nat_lt n (2 ^ 31) ≡ true → n < 2 ^ 31
+        below : (n : ℕ) → nat_le n greatest_integer ≡ true → n ≤ greatest_integer
         below n small = grind arith
   read_whole kind false small e = absurd (cc e)
 
@@ -44,7 +45,7 @@ module _ (i : Input) (here : Token) (rest : List Token) (row : i.rest ≡ here �
 
   by_kind : (kind : Lexeme) → lexeme_of here ≡ kind → reading.take_one (reading.constant_by kind i.at here.value) i ≡ Some (found, j) → Took (Spells (tree_of found) 0) i j
   unfolding reading.whole_value
-  by_kind lexeme.Whole kind e = read_whole kind (nat_lt (number_of here.value) (2 ^ 31)) refl e
+  by_kind lexeme.Whole kind e = read_whole kind (nat_le (number_of here.value) greatest_integer) refl e
   by_kind lexeme.True kind e = read_truth true kind e
   by_kind lexeme.False kind e = read_truth false kind e
   by_kind lexeme.Quoted kind e =

@@ -1,5 +1,6 @@
 -- What is read of any level is of its form.
 use Rattle.std.proofs.Common.{◌≡◌, refl, sym, ◌∙◌, ap, subst, arith, lit≤, ℕ, zero, suc, ◌≤◌, Bool, true, false, List, [], ◌∷◌, ◌++◌, length, Option, Some, None, if◌then◌else◌}
+use Rattle.std.proofs.lemmas.Option.{some_pair_parts}
 use Rattle.ftn_tree.specs.declared.expr.Expr.{Expr}
 use Rattle.ftn_tree.specs.declared.expr.Expr.TheVariants as exprs
 use Rattle.ftn_tree.specs.declared.lexeme.Lexeme.TheVariants as lexeme
@@ -10,13 +11,13 @@ use Rattle.ftn_tree.specs.Trees.{tree_of}
 use Rattle.ftn_tree.specs.Phrases.{◌·◌, token}
 use Rattle.ftn_tree.specs.Grammar.{IsBetween, IsBefore, Spells, expr}
 use Rattle.ftn_tree.specs.Grammar as grammar
-use Rattle.expr_parse.specs.Input.{Input, Reader, ◌>>=◌, after, sees}
-use Rattle.expr_parse.specs.Operators.{next_operator, next_sign, chained}
-use Rattle.expr_parse.specs.Reading as reading
-use Rattle.expr_parse.proofs.Pieces.{Took, bind_some, some_pair, took_both}
+use Rattle.expr_parse.specs.steps.Input.{Input, Reader, ◌>>=◌, after, sees}
+use Rattle.expr_parse.specs.steps.Operators.{next_operator, next_sign, chained}
+use Rattle.expr_parse.specs.steps.Reading as reading
+use Rattle.expr_parse.proofs.Pieces.{Took, bind_some, took_both}
 use Rattle.expr_parse.proofs.Lists as lists
 use Rattle.expr_parse.proofs.Chains.{chained_last}
-use Rattle.expr_parse.proofs.Inverse.{tree_unary, tree_binary}
+use Rattle.ftn_tree.proofs.Inverse.{tree_unary, tree_binary}
 use Rattle.expr_parse.proofs.Takes.{retold, took_token, token_took, given}
 use Rattle.expr_parse.proofs.Bindings.{power, right_some, each_sign, operator_is, sign_is}
 use Rattle.expr_parse.proofs.SoundRules.{Upto, IsSound, took_expr, sound_primary, sound_named}
@@ -63,7 +64,7 @@ module _ (read : ℕ → Reader Expr) (sound : IsSound read) where
                   (took_both (token (λ at here. (k.at ≡ at) × IsBetween here power)) (Spells (tree_of later.last) later.level) k (after k) j op later.took));
             }
         by onward operand k took false there got =
-            let same = some_pair (chained steps operand) found k j got in
+            let same = some_pair_parts (chained steps operand) found k j got in
             record { last = operand; is = same.0; level = 0; small = lit≤ tt; took = subst (λ j. Took (Spells (tree_of operand) 0) i j) same.1 took }
 
   found_upto : (most level : ℕ) (made found : Expr) (i j k : Input) → level ≤ most → Took (Spells (tree_of made) level) i j → ◌≡◌ {A = Option (Expr × Input)} (Some (made, j)) (Some (found, k)) → Upto most found i k

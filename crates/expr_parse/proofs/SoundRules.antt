@@ -1,6 +1,7 @@
 -- What each rule reads is of its form, where this holds of the expressions inside.
-use Rattle.std.proofs.Common.{◌≡◌, refl, sym, ◌∙◌, ap, subst, arith, lit≤, ℕ, zero, suc, ◌≤◌, Bool, true, false, List, [], ◌∷◌, ◌++◌, length, Option, Some, None, append_assoc, if◌then◌else◌}
-use Rattle.std.proofs.lemmas.Grind.{common_steps}
+use Rattle.std.proofs.Common.{◌≡◌, refl, sym, ◌∙◌, ap, subst, lit≤, ℕ, zero, suc, ◌≤◌, Bool, true, false, List, [], ◌∷◌, ◌++◌, length, Option, Some, None, append_assoc, if◌then◌else◌}
+use Rattle.std.proofs.lemmas.Option.{some_pair_parts}
+use Rattle.std.proofs.lemmas.List.{append-nil}
 use Rattle.ftn_tree.specs.declared.expr.Expr.{Expr}
 use Rattle.ftn_tree.specs.declared.expr.Part.{Part}
 use Rattle.ftn_tree.specs.declared.expr.Expr.TheVariants as exprs
@@ -12,13 +13,13 @@ use Rattle.ftn_tree.specs.Trees.{Section, paren, refer, tree_of}
 use Rattle.ftn_tree.specs.Phrases.{nothing, ◌·◌, mark, mark_at, name, in_parens}
 use Rattle.ftn_tree.specs.Expressions.{is_reference, is_reference_at}
 use Rattle.ftn_tree.specs.Grammar.{Spells, SpellsArgs, SpellsList, SpellsMore, SpellsSection, SpellsEnd, expr}
-use Rattle.expr_parse.specs.Input.{Input, Reader, ◌>>=◌, ◌>>◌, pure, after, after_if, sees, expect, eat, peek}
-use Rattle.expr_parse.specs.Combinators.{◌<$>◌, each_after_comma_from}
-use Rattle.expr_parse.specs.Reading as reading
-use Rattle.expr_parse.proofs.Pieces.{Took, bind_some, some_pair, took_both}
+use Rattle.expr_parse.specs.steps.Input.{Input, Reader, ◌>>=◌, ◌>>◌, pure, after, after_if, sees, expect, eat, peek}
+use Rattle.expr_parse.specs.steps.Combinators.{◌<$>◌, each_after_comma_from}
+use Rattle.expr_parse.specs.steps.Reading as reading
+use Rattle.expr_parse.proofs.Pieces.{Took, bind_some, took_both}
 use Rattle.expr_parse.proofs.Tokens.{mark_piece, bare_made}
 use Rattle.expr_parse.proofs.Lists as lists
-use Rattle.expr_parse.proofs.Inverse.{end_tree, args_tree, list_tree, part_tree, section_tree, tree_paren, tree_refer, tree_part}
+use Rattle.ftn_tree.proofs.Inverse.{end_tree, args_tree, list_tree, part_tree, section_tree, tree_paren, tree_refer, tree_part}
 use Rattle.expr_parse.proofs.Takes.{retold, none_took, given}
 use Rattle.expr_parse.proofs.Sound.{sound_constant, spelled}
 
@@ -78,7 +79,7 @@ module _ (read : ℕ → Reader Expr) (sound : IsSound read) where
       let (high, l, read_high, closing) = bind_some ((expect lexeme.Colon >> reading.bound read lexeme.Close) i) close part j got in
       let (number, k, colon, read_bound) = bind_some (expect lexeme.Colon i) (λ at. reading.bound read lexeme.Close) high l read_high in
       let (last, m, closed, made) = bind_some (expect lexeme.Close l) (λ at. pure (roll-Part (record { low = low; high = high }))) part j closing in
-      let same = some_pair (roll-Part (record { low = low; high = high })) part m j made in
+      let same = some_pair_parts (roll-Part (record { low = low; high = high })) part m j made in
       record {
         high = high;
         is = same.0;
@@ -102,7 +103,7 @@ module _ (read : ℕ → Reader Expr) (sound : IsSound read) where
 
   no_part : (number : ℕ) (given_args : Option (List Expr)) (i : Input) (found : Expr) (j : Input) → ◌≡◌ {A = Option (Expr × Input)} (Some (exprs.Refer number given_args None, i)) (Some (found, j)) → RestRead number given_args i found j
   no_part number given_args i found j made =
-      let same = some_pair (exprs.Refer number given_args None) found i j made in
+      let same = some_pair_parts (exprs.Refer number given_args None) found i j made in
       record { part = None; is = same.0; took = subst (λ j. Took nothing i j) same.1 (none_took i) }
 
   sound_with_args : (number : ℕ) (list : List Expr) (i : Input) (found : Expr) (j : Input) → reading.with_args read number list i ≡ Some (found, j) → RestRead number (Some list) i found j
@@ -117,7 +118,7 @@ module _ (read : ℕ → Reader Expr) (sound : IsSound read) where
     by true there got =
         let (part, m, read_part, made) = bind_some ((reading.bound read lexeme.Colon >>= reading.part_from read) (after i)) (λ part. pure (exprs.Refer number (Some list) (Some part))) found j got in
         let (low, l, read_low, read_rest) = bind_some (reading.bound read lexeme.Colon (after i)) (reading.part_from read) part m read_part in
-        let same = some_pair (exprs.Refer number (Some list) (Some part)) found m j made in
+        let same = some_pair_parts (exprs.Refer number (Some list) (Some part)) found m j made in
         record {
           part = Some part;
           is = same.0;
@@ -133,10 +134,8 @@ module _ (read : ℕ → Reader Expr) (sound : IsSound read) where
 
   none_found : (found all : List Expr) (i j : Input) → ◌≡◌ {A = Option (List Expr × Input)} (Some (found, i)) (Some (all, j)) → Found found all i j
   none_found found all i j got =
-      let same = some_pair found all i j got in
-      record { items = []; is = append_none found ∙ same.0; took = subst (λ j. Took nothing i j) same.1 (none_took i) } where
-        append_none : (found : List Expr) → found ++ [] ≡ found
-        append_none found = grind (arith, common_steps)
+      let same = some_pair_parts found all i j got in
+      record { items = []; is = append-nil found ∙ same.0; took = subst (λ j. Took nothing i j) same.1 (none_took i) }
 
   sound_list : (n : ℕ) (found all : List Expr) (i j : Input) → each_after_comma_from (read loosest) n found i ≡ Some (all, j) → Found found all i j
   unfolding each_after_comma_from
@@ -180,7 +179,7 @@ module _ (read : ℕ → Reader Expr) (sound : IsSound read) where
   sound_with_part : (number : ℕ) (low : Option Expr) (i k l : Input) (found : Expr) (j : Input) → Took (mark lexeme.Open) i k → Took (SpellsEnd (end_tree low)) k l → reading.with_part read number low l ≡ Some (found, j) → GroupRead number i found j
   sound_with_part number low i k l found j opened took_low got =
       let (part, m, read_part, made) = bind_some (reading.part_from read low l) (λ part. pure (exprs.Refer number None (Some part))) found j got in
-      let same = some_pair (exprs.Refer number None (Some part)) found m j made in
+      let same = some_pair_parts (exprs.Refer number None (Some part)) found m j made in
       record {
         list = None;
         middle = i;

@@ -1,6 +1,7 @@
 -- Tokens with which an expression doesn't go on.
 use Rattle.std.proofs.Common.{◌≡◌, refl, sym, ◌∙◌, ap, subst, arith, ℕ, suc, ◌≤◌, ◌<◌, Bool, true, false, ◌&&◌, List, [], ◌∷◌, ◌++◌, length, Option, Some, None}
 use Rattle.std.specs.Prelude.{nat_le, nat_lt, if◌then◌else◌}
+use Rattle.std.proofs.lemmas.Bool.{ltb-true, lt-ltb}
 use Rattle.ftn_tree.specs.declared.token.Token.{Token}
 use Rattle.ftn_tree.specs.declared.lexeme.Lexeme.{Lexeme}
 use Rattle.ftn_tree.specs.declared.lexeme.Lexeme.TheVariants as lexeme
@@ -8,8 +9,8 @@ use Rattle.ftn_tree.specs.Lexemes.{lexeme_of, same_lexeme}
 use Rattle.ftn_tree.specs.Levels.{Binding, Prefix, between, before}
 use Rattle.ftn_tree.specs.Trees.{Tree, whole, truth, quoted, paren, unary, binary, refer}
 use Rattle.ftn_tree.specs.Grammar.{IsBetween, truth_lexeme, Spells}
-use Rattle.expr_parse.specs.Input.{Input, holds_first, first_lexeme, sees, peek}
-use Rattle.expr_parse.specs.Operators.{next_operator, next_sign, only_between, only_before, between_at, before_at}
+use Rattle.expr_parse.specs.steps.Input.{Input, holds_first, first_lexeme, sees, peek}
+use Rattle.expr_parse.specs.steps.Operators.{next_operator, next_sign, only_between, only_before, between_at, before_at}
 use Rattle.expr_parse.proofs.Pieces.{Took, Apart, begins, begins_after}
 use Rattle.expr_parse.proofs.AllKinds.{apart}
 use Rattle.expr_parse.proofs.Tokens.{only, same_is}
@@ -27,12 +28,6 @@ pub record Stops (most : ℕ) (i : Input) : Type 0 where
   pub unopened : sees lexeme.Open i ≡ false
   pub loose : looser most (between_at (peek i)) ≡ true
 
-lt_of : (a b : ℕ) → nat_lt a b ≡ true → a < b
-lt_of a b e = grind arith
-
-is_lt : (a b : ℕ) → a < b → nat_lt a b ≡ true
-is_lt a b e = grind arith
-
 not_le : (a b : ℕ) → a < b → nat_le b a ≡ false
 not_le a b e = grind arith
 
@@ -43,7 +38,7 @@ pub weaker : (most less : ℕ) (i : Input) → less ≤ most → Stops most i �
 weaker most less i small stops = record { unopened = stops.unopened; loose = by (between_at (peek i)) stops.loose } where
   by : (how : Option Binding) → looser most how ≡ true → looser less how ≡ true
   by None e = refl
-  by (Some how) e = is_lt less how.level (below less most how.level small (lt_of most how.level e))
+  by (Some how) e = lt-ltb less how.level (below less most how.level small (ltb-true most how.level e))
 
 pub no_operator : (most own : ℕ) (i : Input) → Stops most i → next_operator most own i ≡ None
 unfolding next_operator
@@ -51,12 +46,12 @@ no_operator most own i stops = by (between_at (peek i)) stops.loose where
   by : (how : Option Binding) → looser most how ≡ true → only_between most own how ≡ None
   by None e = refl
   by (Some how) e =
-      ap (λ fits. if fits && nat_le own how.left then Some how else None) (not_le most how.level (lt_of most how.level e))
+      ap (λ fits. if fits && nat_le own how.left then Some how else None) (not_le most how.level (ltb-true most how.level e))
 
 pub no_power : (most : ℕ) (i : Input) → 1 ≤ most → Stops most i → sees lexeme.Power i ≡ false
 no_power most i some stops = by (sees lexeme.Power i) refl where
   contrary : nat_lt most 1 ≡ true → ⊥
-  contrary e = let small : most < 1 = lt_of most 1 e in absurd (omega arith)
+  contrary e = let small : most < 1 = ltb-true most 1 e in absurd (omega arith)
 
   by : (there : Bool) → sees lexeme.Power i ≡ there → there ≡ false
   by true e = absurd (contrary (sym (ap (λ kind. looser most (between_at kind)) (peek_seen lexeme.Power i e)) ∙ stops.loose))
@@ -109,7 +104,7 @@ colon_no_close i e = sees_peeked lexeme.Colon lexeme.Close i e
 
 -- an operand ends at an operator of a greater level
 pub stops_operator : (holds : ℕ → Token → Type 0) (how : Binding) (most : ℕ) (i j : Input) (one : TookOne holds i j) → IsBetween one.here how → most < how.level → Stops most i
-stops_operator holds how most i j one is small = record { unopened = by (sees lexeme.Open i) refl; loose = ap (λ kind. looser most (between_at kind)) peeked ∙ ap (looser most) is ∙ is_lt most how.level small } where
+stops_operator holds how most i j one is small = record { unopened = by (sees lexeme.Open i) refl; loose = ap (λ kind. looser most (between_at kind)) peeked ∙ ap (looser most) is ∙ lt-ltb most how.level small } where
   peeked : peek i ≡ Some (lexeme_of one.here)
   peeked = peek_here i one.here j.rest one.row
 

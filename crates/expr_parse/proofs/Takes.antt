@@ -1,12 +1,14 @@
 -- The tokens between two inputs.
-use Rattle.std.proofs.Common.{◌≡◌, refl, sym, ◌∙◌, ap, subst, arith, ℕ, suc, ◌+◌, ◌≤◌, true, List, [], ◌∷◌, ◌++◌, length, drop, Option, Some, append_assoc}
+use Rattle.std.proofs.Common.{◌≡◌, refl, sym, ◌∙◌, ap, subst, arith, ℕ, suc, ◌+◌, ◌≤◌, true, List, [], ◌∷◌, ◌++◌, length, drop, Option, Some, append_assoc, add-zero}
 use Rattle.std.proofs.lemmas.Grind.{common_steps}
+use Rattle.std.proofs.lemmas.Option.{some_pair_parts}
 use Rattle.ftn_tree.specs.declared.token.Token.{Token}
 use Rattle.ftn_tree.specs.declared.lexeme.Lexeme.{Lexeme}
 use Rattle.ftn_tree.specs.Lexemes.{lexeme_of, same_lexeme}
 use Rattle.ftn_tree.specs.Phrases.{Phrase, nothing, ◌·◌, token, mark, mark_at}
-use Rattle.expr_parse.specs.Input.{Input, input, after, taken_if, holds_first, first_lexeme, sees, peek, expect}
-use Rattle.expr_parse.proofs.Pieces.{Took, placed, plus_none, some_pair}
+use Rattle.ftn_tree.proofs.PhraseLaws.{placed}
+use Rattle.expr_parse.specs.steps.Input.{Input, input, after, taken_if, holds_first, first_lexeme, sees, peek, expect}
+use Rattle.expr_parse.proofs.Pieces.{Took}
 use Rattle.expr_parse.proofs.Tokens.{same_is, is_same}
 
 -- where one phrase ends and the other begins
@@ -31,10 +33,10 @@ retold one other i j tell took = record { tokens = took.tokens; rest = took.rest
 pub took_nothing : (i j : Input) → Took nothing i j → i ≡ j
 took_nothing i j took =
     ap (λ row. input i.at row) (took.rest ∙ ap (λ tokens. tokens ++ j.rest) took.says)
-    ∙ ap (λ at. input at j.rest) (sym (took.at ∙ ap (λ tokens. i.at + length tokens) took.says ∙ plus_none i.at))
+    ∙ ap (λ at. input at j.rest) (sym (took.at ∙ ap (λ tokens. i.at + length tokens) took.says ∙ add-zero i.at))
 
 pub none_took : (i : Input) → Took nothing i i
-none_took i = record { tokens = []; rest = refl; at = sym (plus_none i.at); says = refl }
+none_took i = record { tokens = []; rest = refl; at = sym (add-zero i.at); says = refl }
 
 pub no_longer : (phrase : Phrase) (i j : Input) → Took phrase i j → length j.rest ≤ length i.rest
 no_longer phrase i j took = by took.tokens i.rest j.rest took.rest where
@@ -116,5 +118,5 @@ took_mark_at number kind i j took =
 -- what was read is what is asked for
 pub given : {A : Type 0} (phrase : A → Phrase) (made found : A) (i j k : Input) → ◌≡◌ {A = Option (A × Input)} (Some (made, j)) (Some (found, k)) → Took (phrase made) i j → Took (phrase found) i k
 given phrase made found i j k e took =
-    let same = some_pair made found j k e in
+    let same = some_pair_parts made found j k e in
     subst (λ found. Took (phrase found) i k) same.0 (subst (λ k. Took (phrase made) i k) same.1 took)

@@ -9,8 +9,8 @@ use Rattle.ftn_tree.specs.declared.lexeme.Lexeme.{Lexeme}
 use Rattle.ftn_tree.specs.declared.lexeme.Lexeme.TheVariants.{Word, Open, Close}
 use Rattle.ftn_tree.specs.Lexemes.{lexeme_of, lexeme_by, is_word, is_word_at, same_lexeme}
 use Rattle.ftn_tree.specs.Phrases.{token, word, word_at, mark, mark_at}
-use Rattle.expr_parse.specs.Input.{Input, and_then, pure, expect, expect_word, taken_if, sees, sees_word, holds_first}
-use Rattle.expr_parse.specs.Combinators.{◌<$>◌}
+use Rattle.expr_parse.specs.steps.Input.{Input, and_then, pure, expect, expect_word, taken_if, sees, sees_word, holds_first}
+use Rattle.expr_parse.specs.steps.Combinators.{◌<$>◌}
 use Rattle.expr_parse.proofs.Pieces.{Piece, Apart, one, mapped, reread, after_ignored, before_ignored}
 
 pub same_is : (a b : Lexeme) → same_lexeme a b ≡ true → a ≡ b

@@ -1,26 +1,27 @@
 //! Constants (Fortran 90, 4.3).
 
 ghost use Rattle.std.specs.Prelude.{◌≡◌};
-ghost use Rattle.expr_parse.specs.Input.{Gives};
-ghost use Rattle.expr_parse.specs.Reading as spec;
+ghost use Rattle.expr_parse.specs.steps.Input.{Gives};
+ghost use Rattle.expr_parse.specs.steps.Reading as spec;
 
 use crate::cursor::Cursor;
 use crate::fault::Misfit;
-use ftn_base::Bytes;
+use ftn_base::{Bytes, GREATEST_INTEGER};
 use ftn_tree::{Expr, Lexeme};
 use std::alloc::Global;
 
-const TOO_LARGE: u64 = 1 << 31;
-
-#[tactic(auto, unfolding(crate::specs::Reading::whole_value))]
+/// The number that digits mean, if it is small enough. All greater ones count as one.
+#[tactic(auto, unfolding(crate::specs::steps::Reading::whole_value))]
 fn whole_value(digits: &[u8]) -> Option<i32>
     ensures { result ≡ spec.whole_value digits.now }
 {
     let mut value: u64 = 0;
     for digit in digits {
-        value = (value * 10 + u64::from(digit.saturating_sub(b'0'))).min(TOO_LARGE);
+        value = (value * 10 + u64::from(digit.saturating_sub(b'0'))).min(
+            u64::from(GREATEST_INTEGER) + 1,
+        );
     }
-    if value < TOO_LARGE {
+    if value <= u64::from(GREATEST_INTEGER) {
         Some(value as i32)
     } else {
         None
@@ -28,7 +29,7 @@ fn whole_value(digits: &[u8]) -> Option<i32>
 }
 
 /// Reads a token that is a constant by itself.
-#[tactic(auto, unfolding(crate::specs::Reading::constant))]
+#[tactic(auto, unfolding(crate::specs::steps::Reading::constant))]
 pub fn constant(alloc: Global, cursor: &mut Cursor<'_>) -> Result<Expr, Misfit>
     ensures { Gives (spec.constant cursor.old) result cursor.new }
 {

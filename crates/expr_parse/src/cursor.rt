@@ -1,8 +1,8 @@
 //! A cursor over the tokens of a statement.
 
 ghost use Rattle.std.specs.Prelude.{◌≡◌, ◌<◌, ◌≤◌, ◌+◌, ◌^◌, true, length, OnSome};
-ghost use Rattle.expr_parse.specs.Input as spec;
-ghost use Rattle.expr_parse.specs.Input.{Gives};
+ghost use Rattle.expr_parse.specs.steps.Input as spec;
+ghost use Rattle.expr_parse.specs.steps.Input.{Gives};
 
 use crate::fault::Misfit;
 use ftn_base::Range;
@@ -18,7 +18,7 @@ pub struct Cursor<'a> {
 
 impl<'a> Model for Cursor<'a> {
     ghost use Rattle.std.specs.Prelude.{◌+◌, ◌<◌, ◌^◌, length};
-    ghost use Rattle.expr_parse.specs.Input.{Input, input};
+    ghost use Rattle.expr_parse.specs.steps.Input.{Input, input};
 
     ghost Value = { Input };
 
@@ -64,7 +64,7 @@ impl<'a> Cursor<'a> {
     }
 
     /// What the next token is in the grammar.
-    #[tactic(auto, unfolding(crate::specs::Input::peek))]
+    #[tactic(auto, unfolding(crate::specs::steps::Input::peek))]
     pub fn peek(&self) -> Option<Lexeme>
         ensures value { result ≡ spec.peek self.now }
         ensures there { OnSome result (1 ≤ length self.now.rest) }
@@ -76,7 +76,7 @@ impl<'a> Cursor<'a> {
     }
 
     /// What the token after the next one is in the grammar.
-    #[tactic(auto, unfolding(crate::specs::Input::peek_second))]
+    #[tactic(auto, unfolding(crate::specs::steps::Input::peek_second))]
     pub fn peek_second(&self) -> Option<Lexeme>
         ensures { result ≡ spec.peek_second self.now }
     {
@@ -87,7 +87,7 @@ impl<'a> Cursor<'a> {
     }
 
     /// Whether the next token is that.
-    #[tactic(auto, unfolding(crate::specs::Input::sees))]
+    #[tactic(auto, unfolding(crate::specs::steps::Input::sees))]
     pub fn sees(&self, kind: Lexeme) -> bool
         ensures value { result ≡ spec.sees kind self.now }
         ensures there { result ≡ true → 1 ≤ length self.now.rest }
@@ -99,7 +99,7 @@ impl<'a> Cursor<'a> {
     }
 
     /// Whether the next token is that word, given in lower case.
-    #[tactic(auto, unfolding(crate::specs::Input::sees_word))]
+    #[tactic(auto, unfolding(crate::specs::steps::Input::sees_word))]
     pub fn sees_word(&self, text: &[u8]) -> bool
         ensures value { result ≡ spec.sees_word text.now self.now }
         ensures there { result ≡ true → 1 ≤ length self.now.rest }
@@ -111,7 +111,7 @@ impl<'a> Cursor<'a> {
     }
 
     /// Whether no token is left.
-    #[tactic(auto, unfolding(crate::specs::Input::is_done))]
+    #[tactic(auto, unfolding(crate::specs::steps::Input::is_done))]
     pub fn is_done(&self) -> bool
         ensures { result ≡ spec.is_done self.now }
     {
@@ -151,7 +151,7 @@ impl<'a> Cursor<'a> {
     }
 
     /// Takes the next token, which has to be that, and gives its number.
-    #[tactic(auto, unfolding(crate::specs::Input::expect))]
+    #[tactic(auto, unfolding(crate::specs::steps::Input::expect))]
     pub fn expect(&mut self, kind: Lexeme) -> Result<u32, Misfit>
         ensures { Gives (spec.expect kind self.old) result self.new }
     {
@@ -164,7 +164,7 @@ impl<'a> Cursor<'a> {
     }
 
     /// Takes the next token, which has to be that word, and gives its number.
-    #[tactic(auto, unfolding(crate::specs::Input::expect_word))]
+    #[tactic(auto, unfolding(crate::specs::steps::Input::expect_word))]
     pub fn expect_word(&mut self, text: &[u8]) -> Result<u32, Misfit>
         ensures { Gives (spec.expect_word text.now self.old) result self.new }
     {
@@ -184,7 +184,7 @@ impl<'a> Cursor<'a> {
     }
 
     /// Says that no token may be left.
-    #[tactic(auto, unfolding(crate::specs::Input::finish, crate::specs::Input::is_done))]
+    #[tactic(auto, unfolding(crate::specs::steps::Input::finish, crate::specs::steps::Input::is_done))]
     pub fn finish(&mut self) -> Result<(), Misfit>
         ensures { Gives (spec.finish self.old) result self.new }
     {
@@ -193,5 +193,13 @@ impl<'a> Cursor<'a> {
         } else {
             Err(Misfit::NoFit)
         }
+    }
+
+    /// Gives what was read, if no token is left.
+    pub fn finish_with<T: Drop>(&mut self, found: T) -> Result<T, Misfit>
+        ensures { Gives (spec.finish_with found self.old) result self.new }
+    {
+        self.finish()?;
+        Ok(found)
     }
 }

@@ -2,10 +2,10 @@
 
 ghost use Rattle.std.specs.Prelude.{◌≡◌};
 ghost use Rattle.ftn_tree.specs.Grammar.{expr};
-ghost use Rattle.expr_parse.specs.Input.{Gives, tokens_in};
-ghost use Rattle.expr_parse.specs.Input as input;
-ghost use Rattle.expr_parse.specs.Combinators as lists;
-ghost use Rattle.expr_parse.specs.Reading as spec;
+ghost use Rattle.expr_parse.specs.steps.Input.{Gives, tokens_in};
+ghost use Rattle.expr_parse.specs.steps.Input as input;
+ghost use Rattle.expr_parse.specs.steps.Combinators as lists;
+ghost use Rattle.expr_parse.specs.steps.Reading as spec;
 ghost use Rattle.expr_parse.specs.Exact.{IsExact};
 
 use crate::cursor::Cursor;
@@ -34,7 +34,7 @@ fn read(alloc: Global, cursor: &mut Cursor<'_>, depth: usize, most: u8) -> Resul
 
 /// Reads the expression that is as long as possible (Fortran 90, 7.1). It sets no limit to nested parentheses: test them by
 /// [`is_deep`] first.
-#[tactic(auto, unfolding(crate::specs::Reading::expression))]
+#[tactic(auto, unfolding(crate::specs::steps::Reading::expression))]
 pub fn read_expression(alloc: Global, cursor: &mut Cursor<'_>) -> Result<Expr, Misfit>
     ensures { Gives (spec.expression cursor.old) result cursor.new }
 {
@@ -44,7 +44,7 @@ pub fn read_expression(alloc: Global, cursor: &mut Cursor<'_>) -> Result<Expr, M
 
 /// Reads a name with the subscripts or arguments and the substring range that follow it (Fortran 90, 6.1.1, 6.2.2, 12.4.1). It sets
 /// no limit to nested parentheses: test them by [`is_deep`] first.
-#[tactic(auto, unfolding(crate::specs::Reading::reference))]
+#[tactic(auto, unfolding(crate::specs::steps::Reading::reference))]
 pub fn read_reference(alloc: Global, cursor: &mut Cursor<'_>) -> Result<Expr, Misfit>
     ensures { Gives (spec.reference cursor.old) result cursor.new }
 {
@@ -113,11 +113,10 @@ pub fn expression(alloc: Global, tokens: &Tokens, at: Range) -> Result<Expr, Sta
 }
 
 /// Reads an expression that is all that is left.
-#[tactic(auto, unfolding(crate::specs::Reading::whole_expression))]
+#[tactic(auto, unfolding(crate::specs::steps::Reading::whole_expression))]
 fn whole_expression(alloc: Global, cursor: &mut Cursor<'_>) -> Result<Expr, Misfit>
     ensures { Gives (spec.whole_expression cursor.old) result cursor.new }
 {
     let found = read_expression(alloc, cursor)?;
-    cursor.finish()?;
-    Ok(found)
+    cursor.finish_with(found)
 }

@@ -1,4 +1,8 @@
 //! Reads expressions (Fortran 90, 7.1), and holds what the readers of statements share.
+//!
+//! `expression` gives the one tree that fits exactly the tokens, or the fault of tokens that no tree fits. To be trusted are `Grammar`,
+//! `Levels`, `Operators`, `Lexemes`, `Phrases` and `Misfits` of `ftn_tree`, and `Exact` here; `steps` serves proofs alone, those of
+//! readers in other crates too. Types and values aren't said here.
 #![tactic(auto)]
 
 mod assignment;

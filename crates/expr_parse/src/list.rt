@@ -1,8 +1,8 @@
 //! Lists.
 
-ghost use Rattle.expr_parse.specs.Input.{Reader, Gives};
-ghost use Rattle.expr_parse.specs.Callable.{Reads};
-ghost use Rattle.expr_parse.specs.Combinators as spec;
+ghost use Rattle.expr_parse.specs.steps.Input.{Reader, Gives};
+ghost use Rattle.expr_parse.specs.steps.Callable.{Reads};
+ghost use Rattle.expr_parse.specs.steps.Combinators as spec;
 
 use crate::cursor::Cursor;
 use crate::fault::Misfit;

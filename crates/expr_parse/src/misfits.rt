@@ -4,14 +4,12 @@ ghost use Rattle.std.specs.Prelude.{IsTrue, ◌↔◌, ◌≡◌, ◌+◌, ◌<�
 ghost use Rattle.std.specs.List.{list_any};
 ghost use Rattle.ftn_tree.specs.Lexemes.{lexeme_of, is_word};
 ghost use Rattle.ftn_tree.specs.Misfits as outside;
-ghost use Rattle.expr_parse.specs.Faults as spec;
+ghost use Rattle.expr_parse.specs.steps.Faults as spec;
 ghost use Rattle.expr_parse.specs.Exact as exact;
 
 use crate::fault::StatementFault;
+use ftn_base::MOST_PARENTHESES;
 use ftn_tree::{Lexeme, Token, TokenKind};
-
-/// How deep parentheses may nest.
-const DEEPEST: usize = 200;
 
 fn is_open(here: &Token) -> bool
     ensures { result ≡ outside.is_open here.now }
@@ -44,14 +42,14 @@ pub fn is_deep(tokens: &[Token]) -> bool
 fn nests_too_deep(tokens: &[Token]) -> bool
     ensures { result ≡ spec.is_deep tokens.now }
 {
-    if tokens.len() <= DEEPEST {
+    if tokens.len() <= MOST_PARENTHESES {
         false
     } else {
         counts_too_deep(tokens)
     }
 }
 
-#[tactic(auto, unfolding(crate::specs::Faults::is_deep))]
+#[tactic(auto, unfolding(crate::specs::steps::Faults::is_deep))]
 fn counts_too_deep(tokens: &[Token]) -> bool
     ensures { result ≡ spec.is_deep tokens.now }
 {
@@ -60,7 +58,7 @@ fn counts_too_deep(tokens: &[Token]) -> bool
     for here in tokens {
         opened += one_if(is_open(here));
         closed += one_if(is_close(here));
-        if DEEPEST + closed < opened {
+        if MOST_PARENTHESES + closed < opened {
             return true;
         }
     }

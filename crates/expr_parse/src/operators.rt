@@ -2,7 +2,7 @@
 
 ghost use Rattle.std.specs.Prelude.{◌≡◌, ◌≤◌, IfOk, OnSome, length};
 ghost use Rattle.ftn_tree.specs.Levels as levels;
-ghost use Rattle.expr_parse.specs.Operators as spec;
+ghost use Rattle.expr_parse.specs.steps.Operators as spec;
 
 use crate::cursor::Cursor;
 use ftn_tree::{Expr, Lexeme, Operator};
@@ -107,7 +107,7 @@ fn before(kind: Lexeme) -> Option<Prefix>
 }
 
 /// How the next token binds after an operand of level `own`, in an expression of at most level `most`.
-#[tactic(auto, unfolding(crate::specs::Operators::next_operator))]
+#[tactic(auto, unfolding(crate::specs::steps::Operators::next_operator))]
 pub fn next_operator(cursor: &Cursor<'_>, most: u8, own: u8) -> Option<Binding>
     ensures value { result ≡ spec.next_operator most own cursor.now }
     ensures there { OnSome result (1 ≤ length cursor.now.rest) }
@@ -121,7 +121,7 @@ pub fn next_operator(cursor: &Cursor<'_>, most: u8, own: u8) -> Option<Binding>
 }
 
 /// How the next token binds before an operand, in an expression of at most level `most`.
-#[tactic(auto, unfolding(crate::specs::Operators::next_sign))]
+#[tactic(auto, unfolding(crate::specs::steps::Operators::next_sign))]
 pub fn next_sign(cursor: &Cursor<'_>, most: u8) -> Option<Prefix>
     ensures value { result ≡ spec.next_sign most cursor.now }
     ensures there { OnSome result (1 ≤ length cursor.now.rest) }

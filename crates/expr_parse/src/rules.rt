@@ -2,9 +2,9 @@
 //! parameter.
 
 ghost use Rattle.std.specs.Prelude.{◌≡◌, ◌≤◌, ◌∷◌, []};
-ghost use Rattle.expr_parse.specs.Input.{Gives};
-ghost use Rattle.expr_parse.specs.Reading as spec;
-ghost use Rattle.expr_parse.specs.Nests.{Nests};
+ghost use Rattle.expr_parse.specs.steps.Input.{Gives};
+ghost use Rattle.expr_parse.specs.steps.Reading as spec;
+ghost use Rattle.expr_parse.specs.steps.Nests.{Nests};
 
 use crate::constants::constant;
 use crate::cursor::Cursor;
@@ -32,7 +32,7 @@ impl<F: Fn(Global, &mut Cursor<'_>, usize, u8) -> Result<Expr, Misfit>> Rules<F>
         (self.read)(self.alloc, cursor, self.depth, most)
     }
 
-    #[tactic(auto, unfolding(crate::specs::Reading::parenthesized))]
+    #[tactic(auto, unfolding(crate::specs::steps::Reading::parenthesized))]
     fn parenthesized(&self, cursor: &mut Cursor<'_>) -> Result<Expr, Misfit>
         requires { Nests self.now.depth (F.pre self.now.read) (F.post self.now.read) }
         ensures { Gives (spec.parenthesized (spec.read self.now.depth) cursor.old) result cursor.new }
@@ -43,7 +43,7 @@ impl<F: Fn(Global, &mut Cursor<'_>, usize, u8) -> Result<Expr, Misfit>> Rules<F>
         Ok(Expr::Paren { token, inner })
     }
 
-    #[tactic(auto, unfolding(crate::specs::Reading::bound))]
+    #[tactic(auto, unfolding(crate::specs::steps::Reading::bound))]
     fn bound(&self, cursor: &mut Cursor<'_>, until: Lexeme) -> Result<Option<Expr>, Misfit>
         requires { Nests self.now.depth (F.pre self.now.read) (F.post self.now.read) }
         ensures { Gives (spec.bound (spec.read self.now.depth) until cursor.old) result cursor.new }
@@ -54,7 +54,7 @@ impl<F: Fn(Global, &mut Cursor<'_>, usize, u8) -> Result<Expr, Misfit>> Rules<F>
         Ok(Some(self.read(cursor, LOOSEST)?))
     }
 
-    #[tactic(auto, unfolding(crate::specs::Reading::part_from))]
+    #[tactic(auto, unfolding(crate::specs::steps::Reading::part_from))]
     fn part_from(&self, cursor: &mut Cursor<'_>, low: Option<Expr>) -> Result<Part, Misfit>
         requires { Nests self.now.depth (F.pre self.now.read) (F.post self.now.read) }
         ensures { Gives (spec.part_from (spec.read self.now.depth) low cursor.old) result cursor.new }
@@ -82,7 +82,7 @@ impl<F: Fn(Global, &mut Cursor<'_>, usize, u8) -> Result<Expr, Misfit>> Rules<F>
         })
     }
 
-    #[tactic(auto, unfolding(crate::specs::Reading::with_args))]
+    #[tactic(auto, unfolding(crate::specs::steps::Reading::with_args))]
     fn with_args(
         &self,
         cursor: &mut Cursor<'_>,
@@ -108,7 +108,7 @@ impl<F: Fn(Global, &mut Cursor<'_>, usize, u8) -> Result<Expr, Misfit>> Rules<F>
         })
     }
 
-    #[tactic(auto, unfolding(crate::specs::Combinators::each_after_comma_from))]
+    #[tactic(auto, unfolding(crate::specs::steps::Combinators::each_after_comma_from))]
     fn list_from(&self, cursor: &mut Cursor<'_>, first: Expr) -> Result<Items<Expr>, Misfit>
         requires { Nests self.now.depth (F.pre self.now.read) (F.post self.now.read) }
         ensures { Gives (spec.list_from (spec.read self.now.depth) first cursor.old) result cursor.new }
@@ -124,7 +124,7 @@ impl<F: Fn(Global, &mut Cursor<'_>, usize, u8) -> Result<Expr, Misfit>> Rules<F>
         Ok(found)
     }
 
-    #[tactic(auto, unfolding(crate::specs::Reading::args_from))]
+    #[tactic(auto, unfolding(crate::specs::steps::Reading::args_from))]
     fn args_from(&self, cursor: &mut Cursor<'_>, name: u32, first: Expr) -> Result<Expr, Misfit>
         requires { Nests self.now.depth (F.pre self.now.read) (F.post self.now.read) }
         ensures { Gives (spec.args_from (spec.read self.now.depth) name first cursor.old) result cursor.new }
@@ -149,7 +149,7 @@ impl<F: Fn(Global, &mut Cursor<'_>, usize, u8) -> Result<Expr, Misfit>> Rules<F>
         }
     }
 
-    #[tactic(auto, unfolding(crate::specs::Reading::group))]
+    #[tactic(auto, unfolding(crate::specs::steps::Reading::group))]
     fn group(&self, cursor: &mut Cursor<'_>, name: u32) -> Result<Expr, Misfit>
         requires { Nests self.now.depth (F.pre self.now.read) (F.post self.now.read) }
         ensures { Gives (spec.group (spec.read self.now.depth) name cursor.old) result cursor.new }
@@ -162,7 +162,7 @@ impl<F: Fn(Global, &mut Cursor<'_>, usize, u8) -> Result<Expr, Misfit>> Rules<F>
     }
 
     /// Reads a name with what follows it.
-    #[tactic(auto, unfolding(crate::specs::Reading::named))]
+    #[tactic(auto, unfolding(crate::specs::steps::Reading::named))]
     pub fn named(&self, cursor: &mut Cursor<'_>) -> Result<Expr, Misfit>
         requires { Nests self.now.depth (F.pre self.now.read) (F.post self.now.read) }
         ensures { Gives (spec.named (spec.read self.now.depth) cursor.old) result cursor.new }
@@ -178,7 +178,7 @@ impl<F: Fn(Global, &mut Cursor<'_>, usize, u8) -> Result<Expr, Misfit>> Rules<F>
         })
     }
 
-    #[tactic(auto, unfolding(crate::specs::Reading::primary))]
+    #[tactic(auto, unfolding(crate::specs::steps::Reading::primary))]
     fn primary(&self, cursor: &mut Cursor<'_>) -> Result<Expr, Misfit>
         requires { Nests self.now.depth (F.pre self.now.read) (F.post self.now.read) }
         ensures { Gives (spec.primary (spec.read self.now.depth) cursor.old) result cursor.new }
@@ -190,7 +190,7 @@ impl<F: Fn(Global, &mut Cursor<'_>, usize, u8) -> Result<Expr, Misfit>> Rules<F>
         }
     }
 
-    #[tactic(auto, unfolding(crate::specs::Reading::powers, crate::specs::Reading::powers_from))]
+    #[tactic(auto, unfolding(crate::specs::steps::Reading::powers, crate::specs::steps::Reading::powers_from))]
     fn powers(&self, cursor: &mut Cursor<'_>) -> Result<Expr, Misfit>
         requires { Nests self.now.depth (F.pre self.now.read) (F.post self.now.read) }
         ensures { Gives (spec.powers (spec.read self.now.depth) cursor.old) result cursor.new }
@@ -207,7 +207,7 @@ impl<F: Fn(Global, &mut Cursor<'_>, usize, u8) -> Result<Expr, Misfit>> Rules<F>
         Err(Misfit::NoFit)
     }
 
-    #[tactic(auto, unfolding(crate::specs::Reading::operators, crate::specs::Reading::climb))]
+    #[tactic(auto, unfolding(crate::specs::steps::Reading::operators, crate::specs::steps::Reading::climb))]
     fn operators(
         &self,
         cursor: &mut Cursor<'_>,
@@ -234,7 +234,7 @@ impl<F: Fn(Global, &mut Cursor<'_>, usize, u8) -> Result<Expr, Misfit>> Rules<F>
     }
 
     /// Reads an expression of at most a level, as long as possible.
-    #[tactic(auto, unfolding(crate::specs::Reading::level))]
+    #[tactic(auto, unfolding(crate::specs::steps::Reading::level))]
     pub fn level(&self, cursor: &mut Cursor<'_>, most: u8) -> Result<Expr, Misfit>
         requires { Nests self.now.depth (F.pre self.now.read) (F.post self.now.read) }
         ensures { Gives (spec.level (spec.read self.now.depth) most cursor.old) result cursor.new }

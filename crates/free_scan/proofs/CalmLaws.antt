@@ -1,26 +1,14 @@
 -- Calm bytes in front of a line are code, and stand for themselves.
-use Rattle.std.proofs.Common.{◌≡◌, ℕ, zero, suc, ◌+◌, ◌≤◌, ◌<◌, Bool, true, false, List, [], ◌∷◌, drop, Option, Some, None, refl, ap, sym, subst, ◌∙◌, arith}
+use Rattle.std.proofs.Common.{◌≡◌, ℕ, suc, ◌+◌, ◌≤◌, ◌<◌, Bool, true, false, List, [], ◌∷◌, drop, Option, Some, None, refl, ap, sym, subst, ◌∙◌, arith}
 use Rattle.std.specs.Prelude.{◌&&◌, ◌||◌, not, ◌==◌, nat_le, nat_lt, if◌then◌else◌}
 use Rattle.std.specs.List.{prefix_len}
-use Rattle.std.proofs.lemmas.Bool.{cond_both}
+use Rattle.std.proofs.lemmas.Bool.{cond_both, leb-true, ltb-true, lt-leb, le-ltb, not-true}
 use Rattle.std.proofs.lemmas.Bool.Decides.{nat_tests}
 use Rattle.ftn_tree.specs.Code.{code_len, is_control, is_quote, is_wrong, quote_after}
-use Rattle.free_scan.specs.PlainText.{is_calm, is_plain, plain_end}
-
-from_le : (a b : ℕ) → nat_le a b ≡ true → a ≤ b
-from_le a b e = grind (arith, nat_tests)
-
-from_lt : (a b : ℕ) → nat_lt a b ≡ true → a < b
-from_lt a b e = grind (arith, nat_tests)
+use Rattle.free_scan.specs.steps.PlainText.{is_calm, is_plain, plain_end}
 
 from_eq : (a b : ℕ) → (a == b) ≡ true → a ≡ b
 from_eq a b e = grind (arith, nat_tests)
-
-not_le : (a b : ℕ) → b < a → nat_le a b ≡ false
-not_le a b lt = grind (arith, nat_tests)
-
-not_lt : (a b : ℕ) → b ≤ a → nat_lt a b ≡ false
-not_lt a b le = grind (arith, nat_tests)
 
 above : (a b : ℕ) → b < a → (a == b) ≡ false
 above a b lt = grind (arith, nat_tests)
@@ -33,10 +21,6 @@ three_true true true true e = (refl, (refl, refl))
 three_true true true false e = absurd (cc)
 three_true true false c e = absurd (cc)
 three_true false b c e = absurd (cc)
-
-is_false : (c : Bool) → not c ≡ true → c ≡ false
-is_false true e = absurd (cc)
-is_false false e = refl
 
 -- what such a byte isn't
 record Calm (b : ℕ) : Type 0 where
@@ -52,9 +36,9 @@ calm_other : (b : ℕ) → 40 ≤ b → b < 127 → (b == 59) ≡ false → Calm
 calm_other b least most other =
     let quote : (b == 39) ≡ false = above b 39 least in
     let double : (b == 34) ≡ false = above b 34 (omega arith) in
-    let low : nat_lt b 32 ≡ false = not_lt b 32 (omega arith) in
+    let low : nat_lt b 32 ≡ false = le-ltb b 32 (omega arith) in
     let last : (b == 127) ≡ false = below b 127 most in
-    let high : nat_le 128 b ≡ false = not_le 128 b (omega arith) in
+    let high : nat_le 128 b ≡ false = lt-leb 128 b (omega arith) in
     let ampersand : (b == 38) ≡ false = above b 38 (omega arith) in
     let control : is_control b ≡ false = ap (λ c. c && not (b == 9) || b == 127) low ∙ last in
     record {
@@ -70,7 +54,7 @@ calm_is b e = by (b == 32) refl e where
   by true blank e = calm_blank b (from_eq b 32 blank)
   by false blank e =
       let parts : (nat_le 40 b ≡ true) × ((nat_lt b 127 ≡ true) × (not (b == 59) ≡ true)) = three_true (nat_le 40 b) (nat_lt b 127) (not (b == 59)) e in
-      calm_other b (from_le 40 b parts.0) (from_lt b 127 parts.1.0) (is_false (b == 59) parts.1.1)
+      calm_other b (leb-true 40 b parts.0) (ltb-true b 127 parts.1.0) (not-true (b == 59) parts.1.1)
 
 calm_quote : (b : ℕ) → Calm b → quote_after None b ≡ None
 calm_quote b calm = ap (λ c. if c then Some b else None) calm.quote

@@ -7,8 +7,9 @@ use Rattle.std.proofs.lemmas.List.{append-nil, drop_all}
 use Rattle.std.proofs.lemmas.List.Folds.{list_all-append}
 use Rattle.std.proofs.lemmas.List.Concat.{flat_map-cons}
 use Rattle.std.proofs.lemmas.Slice.Eq.{bytes_eq-Decides}
+use Rattle.std.specs.Cmp.{both_ways}
 use Rattle.free_scan.specs.Clean.{are_distinct, is_among, is_clean, is_free_name, operand_names, statement_fits, statement_names, sum_names, variables}
-use Rattle.free_scan.specs.Fresh.{are_fresh}
+use Rattle.free_scan.specs.steps.Fresh.{are_fresh}
 use Rattle.free_scan.specs.Spelling.{is_some_row}
 use Rattle.ftn_base.specs.Keywords.{is_keyword, is_intrinsic}
 use Rattle.ftn_base.specs.Limits.{name_limit}
@@ -22,14 +23,8 @@ use Rattle.free_scan.specs.declared.first_form.program.Term.{Term}
 
 -- ---- the order of two names does not count
 
-both : (x y : Bool) → (x ≡ true → y ≡ true) → (y ≡ true → x ≡ true) → x ≡ y
-both true true f g = refl
-both false false f g = refl
-both true false f g = sym (f refl)
-both false true f g = g refl
-
 pub turned : (a b : List ℕ) → bytes_eq a b ≡ bytes_eq b a
-turned a b = both _ _ (λ h. (bytes_eq-Decides b a).1 (sym ((bytes_eq-Decides a b).0 h))) (λ h. (bytes_eq-Decides a b).1 (sym ((bytes_eq-Decides b a).0 h)))
+turned a b = both_ways _ _ (λ h. (bytes_eq-Decides b a).1 (sym ((bytes_eq-Decides a b).0 h))) (λ h. (bytes_eq-Decides a b).1 (sym ((bytes_eq-Decides b a).0 h)))
 
 pub among_turned : (names : List (List ℕ)) (name : List ℕ) → list_any (λ other. bytes_eq name other) names ≡ is_among names name
 among_turned [] name = refl

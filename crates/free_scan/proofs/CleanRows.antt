@@ -8,7 +8,7 @@ use Rattle.std.proofs.lemmas.List.Concat.{flat_map-cons}
 use Rattle.std.proofs.lemmas.Slice.Eq.{bytes_eq-Decides}
 use Rattle.ftn_base.specs.Keywords.{is_keyword, is_intrinsic}
 use Rattle.ftn_base.specs.Letters.{folded}
-use Rattle.ftn_base.specs.Limits.{name_limit}
+use Rattle.ftn_base.specs.Limits.{greatest_integer, name_limit}
 use Rattle.ftn_base.specs.Names.{is_name}
 use Rattle.ftn_base.specs.declared.name.Edition.TheVariants.{F90}
 use Rattle.free_scan.specs.Clean.{are_distinct, is_among, is_clean, is_free_name, operand_fits, operand_names, statement_fits, statement_names, sum_fits, sum_names, variables}
@@ -33,7 +33,7 @@ AllNamed names = AllByRecursion Named names
 
 abbrev pub IsClean : Lexeme → Type 0
 IsClean (word name) = Named name
-IsClean (whole n) = nat_le n 2147483647 ≡ true
+IsClean (whole n) = nat_le n greatest_integer ≡ true
 IsClean (mark text) = Unit {0}
 
 abbrev Clean : List Lexeme → Type 0

@@ -7,7 +7,7 @@ use Rattle.std.proofs.lemmas.List.{drop_more, drop-drop, drop_all, append-nil}
 use Rattle.ftn_tree.specs.Lines.{begins_with}
 use Rattle.ftn_tree.specs.Pieces.{constant_len}
 use Rattle.ftn_tree.specs.Reading.{inside}
-use Rattle.free_scan.proofs.PieceLaws.{begun}
+use Rattle.ftn_tree.proofs.LineLaws.{begins_some}
 
 same : (quote : ℕ) → (quote == quote) ≡ true
 same quote = eq-eqb quote quote refl
@@ -65,7 +65,7 @@ quote_at quote rest at lt is = drop_more rest at 0 lt ∙ ap (λ b. b ∷ drop (
 
 -- a quote that follows is within the text
 pub next_within : (quote : ℕ) (rest : List ℕ) (at : ℕ) → begins_with quote (drop (at + 1) rest) ≡ true → at + 2 ≤ length rest
-next_within quote rest at next = let some : 1 ≤ length (drop (at + 1) rest) = begun quote (drop (at + 1) rest) next in omega (arith, length-drop (at + 1) rest)
+next_within quote rest at next = let some : 1 ≤ length (drop (at + 1) rest) = begins_some quote (drop (at + 1) rest) next in omega (arith, length-drop (at + 1) rest)
 
 -- how many bytes there are, past a byte that is no quote
 pub len_on : (whole : Option ℕ) (quote : ℕ) (rest : List ℕ) (at : ℕ) → at < length rest → get_or rest at 0 ≢ quote

@@ -1,19 +1,13 @@
 -- The first of the places at which a text breaks a rule is found.
 use Rattle.std.proofs.Common.{◌≡◌, ℕ, ◌≤◌, ◌<◌, ◌⊎◌, inl, inr, Bool, true, false, List, [], ◌∷◌, ◌++◌, Option, None, Some, refl, sym, ◌∙◌, arith, append_assoc, append-nil}
 use Rattle.std.specs.Prelude.{◌&&◌, ◌||◌, ◌==◌, nat_lt}
-use Rattle.std.proofs.lemmas.Bool.{cond_both}
+use Rattle.std.proofs.lemmas.Bool.{cond_both, ltb-true, ltb-false}
 use Rattle.std.proofs.lemmas.Bool.Decides.{nat_tests}
 use Rattle.ftn_tree.specs.Breaks.{Among, Breach, IsFirst, rank}
-use Rattle.free_scan.specs.Firsts.{comes_before, earlier, least, merged, IsFirstOf}
+use Rattle.free_scan.specs.steps.Firsts.{comes_before, earlier, least, merged, IsFirstOf}
 
 abbrev pub NotAfter : Breach → Breach → Type 0
 NotAfter breach other = (breach.0 < other.0) ⊎ ((breach.0 ≡ other.0) × (rank breach.1 ≤ rank other.1))
-
-less : (m n : ℕ) → nat_lt m n ≡ true → m < n
-less m n is = grind (arith, nat_tests)
-
-not_less : (m n : ℕ) → nat_lt m n ≡ false → n ≤ m
-not_less m n is = grind (arith, nat_tests)
 
 same : (m n : ℕ) → m == n ≡ true → m ≡ n
 same m n is = grind (arith, nat_tests)
@@ -27,8 +21,8 @@ before a b is = by (nat_lt a.0 b.0) refl (a.0 == b.0) refl (nat_lt (rank a.1) (r
   where
     by : (x : Bool) → nat_lt a.0 b.0 ≡ x → (y : Bool) → a.0 == b.0 ≡ y → (z : Bool) → nat_lt (rank a.1) (rank b.1) ≡ z → (x || (y && z)) ≡ true
         → (a.0 < b.0) ⊎ ((a.0 ≡ b.0) × (rank a.1 ≤ rank b.1))
-    by true e y f z g is = inl (less a.0 b.0 e)
-    by false e true f true g is = let up : rank a.1 < rank b.1 = less (rank a.1) (rank b.1) g in inr (same a.0 b.0 f, omega arith)
+    by true e y f z g is = inl (ltb-true a.0 b.0 e)
+    by false e true f true g is = let up : rank a.1 < rank b.1 = ltb-true (rank a.1) (rank b.1) g in inr (same a.0 b.0 f, omega arith)
     by false e true f false g is = absurd (cc)
     by false e false f z g is = absurd (cc)
 
@@ -39,8 +33,8 @@ not_before a b is = by (nat_lt a.0 b.0) refl (a.0 == b.0) refl (nat_lt (rank a.1
     by : (x : Bool) → nat_lt a.0 b.0 ≡ x → (y : Bool) → a.0 == b.0 ≡ y → (z : Bool) → nat_lt (rank a.1) (rank b.1) ≡ z → (x || (y && z)) ≡ false → NotAfter b a
     by true e y f z g is = absurd (cc)
     by false e true f true g is = absurd (cc)
-    by false e true f false g is = inr (sym (same a.0 b.0 f), not_less (rank a.1) (rank b.1) g)
-    by false e false f z g is = inl (not_same a.0 b.0 f (not_less a.0 b.0 e))
+    by false e true f false g is = inr (sym (same a.0 b.0 f), ltb-false (rank a.1) (rank b.1) g)
+    by false e false f z g is = inl (not_same a.0 b.0 f (ltb-false a.0 b.0 e))
 
 onward : (a b c : Breach) → NotAfter a b → NotAfter b c → NotAfter a c
 onward a b c (inl x) (inl y) = inl (omega arith)

@@ -1,9 +1,8 @@
 -- A scan that goes on from line to line.
 use Rattle.std.proofs.Common.{◌≡◌, ℕ, ◌+◌, ◌-◌, ◌≤◌, ◌<◌, Bool, true, false, List, [], ◌∷◌, length, take, drop, refl, ap, sym, ◌∙◌, arith, length-drop, Option, None, Some}
-use Rattle.std.specs.Prelude.{nat_lt, nat_le, if◌then◌else◌, min, IfSome}
+use Rattle.std.specs.Prelude.{nat_lt, if◌then◌else◌, min, IfSome}
 use Rattle.std.specs.List.{flat_map, slice_split, onto_first}
-use Rattle.std.proofs.lemmas.Bool.{cond_both}
-use Rattle.std.proofs.lemmas.Bool.Decides.{nat_tests}
+use Rattle.std.proofs.lemmas.Bool.{cond_both, le-leb, lt-leb, ltb-true, ltb-false}
 use Rattle.std.proofs.lemmas.List.{drop-drop, length-take}
 use Rattle.std.proofs.lemmas.List.Concat.{flat_map-cons}
 use Rattle.std.proofs.lemmas.List.Sums.{fails_before_first, fold-append}
@@ -11,8 +10,8 @@ use Rattle.std.proofs.lemmas.List.Splits.{slice_split_first, slice_split_none}
 use Rattle.ftn_tree.specs.Lines.{Line, is_line_feed, placed, without_return}
 use Rattle.ftn_tree.specs.Breaks.{Breach, long_line}
 use Rattle.ftn_tree.specs.Logical.{Carried}
-use Rattle.free_scan.specs.Firsts.{earlier, least}
-use Rattle.free_scan.specs.LinesLeft.{line_size, body_at, lines_left, long_left}
+use Rattle.free_scan.specs.steps.Firsts.{earlier, least}
+use Rattle.free_scan.specs.steps.LinesLeft.{line_size, body_at, lines_left, long_left}
 
 with_first : (x : ℕ) (parts : List (List ℕ)) → (part : List ℕ) × (more : List (List ℕ)) × (onto_first x parts ≡ part ∷ more)
 with_first x [] = (x ∷ [], [], refl)
@@ -50,41 +49,29 @@ pub lines_step : (number at : ℕ) (text : List ℕ) → at ≤ length text
 lines_step number at text within =
     let rest : List ℕ = drop at text in
     let left : length (drop at text) ≡ length text - at = length-drop at text in
-    let here : lines_left number at text ≡ placed number at (slice_split is_line_feed (drop at text)) = ap (λ b. if b then placed number at (slice_split is_line_feed (drop at text)) else []) (le_true at (length text) within) in
+    let here : lines_left number at text ≡ placed number at (slice_split is_line_feed (drop at text)) = ap (λ b. if b then placed number at (slice_split is_line_feed (drop at text)) else []) (le-leb at (length text) within) in
     here ∙ by_end number at text within left (nat_lt (line_size (drop at text)) (length (drop at text))) refl
   where
-    le_true : (m n : ℕ) → m ≤ n → nat_le m n ≡ true
-    le_true m n less = grind (arith, nat_tests)
-
-    le_false : (m n : ℕ) → n < m → nat_le m n ≡ false
-    le_false m n less = grind (arith, nat_tests)
-
-    lt_true : (m n : ℕ) → nat_lt m n ≡ true → m < n
-    lt_true m n is = grind (arith, nat_tests)
-
-    lt_false : (m n : ℕ) → nat_lt m n ≡ false → n ≤ m
-    lt_false m n is = grind (arith, nat_tests)
-
     by_end : (number at : ℕ) (text : List ℕ) → at ≤ length text → length (drop at text) ≡ length text - at
         → (b : Bool) → nat_lt (line_size (drop at text)) (length (drop at text)) ≡ b
         → placed number at (slice_split is_line_feed (drop at text))
         ≡ record { number = number; at = at; body = if b then without_return (take (line_size (drop at text)) (drop at text)) else drop at text } ∷ lines_left (number + 1) (at + line_size (drop at text) + 1) text
     by_end number at text within left true is =
-        let less : line_size (drop at text) < length (drop at text) = lt_true (line_size (drop at text)) (length (drop at text)) is in
+        let less : line_size (drop at text) < length (drop at text) = ltb-true (line_size (drop at text)) (length (drop at text)) is in
         let inside : at + line_size (drop at text) + 1 ≤ length text = omega arith in
         let further : drop (line_size (drop at text) + 1) (drop at text) ≡ drop (at + line_size (drop at text) + 1) text = drop-drop (line_size (drop at text) + 1) at text ∙ ap (λ n. drop n text) (omega arith) in
         before_more number at (drop at text) less
         ∙ ap (λ more. record { number = number; at = at; body = without_return (take (line_size (drop at text)) (drop at text)) } ∷ more)
         (ap (λ t. placed (number + 1) (at + line_size (drop at text) + 1) (slice_split is_line_feed t)) further
         ∙ sym (ap (λ b. if b then placed (number + 1) (at + line_size (drop at text) + 1) (slice_split is_line_feed (drop (at + line_size (drop at text) + 1) text)) else [])
-        (le_true (at + line_size (drop at text) + 1) (length text) inside)))
+        (le-leb (at + line_size (drop at text) + 1) (length text) inside)))
     by_end number at text within left false is =
-        let more : length (drop at text) ≤ line_size (drop at text) = lt_false (line_size (drop at text)) (length (drop at text)) is in
+        let more : length (drop at text) ≤ line_size (drop at text) = ltb-false (line_size (drop at text)) (length (drop at text)) is in
         let past : length text < at + line_size (drop at text) + 1 = omega arith in
         at_last number at (drop at text) more
         ∙ ap (λ more. record { number = number; at = at; body = drop at text } ∷ more)
         (sym (ap (λ b. if b then placed (number + 1) (at + line_size (drop at text) + 1) (slice_split is_line_feed (drop (at + line_size (drop at text) + 1) text)) else [])
-        (le_false (at + line_size (drop at text) + 1) (length text) past)))
+        (lt-leb (at + line_size (drop at text) + 1) (length text) past)))
 
 -- the same, where the line was taken from the text
 pub lines_on : (number at size : ℕ) (text rest body : List ℕ) → at ≤ length text → rest ≡ drop at text → size ≡ line_size rest → body ≡ body_at rest

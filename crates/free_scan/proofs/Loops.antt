@@ -3,7 +3,7 @@ use Rattle.std.proofs.Common.{◌≡◌, ℕ, suc, ◌≤◌, ◌<◌, ◌+◌, 
 use Rattle.std.specs.Option.{option_map}
 use Rattle.std.proofs.lemmas.List.{append-nil, drop_all}
 use Rattle.std.specs.List.{slice_split}
-use Rattle.free_scan.specs.Reading.{◌>>=◌, is_comma, read_all, read_name, read_names, read_statement, read_sum, read_sums, read_terms}
+use Rattle.free_scan.specs.steps.Reading.{◌>>=◌, is_comma, read_all, read_name, read_names, read_statement, read_sum, read_sums, read_terms}
 use Rattle.free_scan.specs.Spelling.{Lexeme, lexeme_of}
 use Rattle.free_scan.specs.declared.first_form.program.Sum.{Sum}
 use Rattle.free_scan.specs.declared.first_form.token.PlacedPiece.{PlacedPiece}

@@ -1,12 +1,12 @@
 -- The words of a text's tokens are in lower case.
-use Rattle.std.proofs.Common.{◌≡◌, ℕ, ◌+◌, Bool, true, false, cond, List, [], ◌∷◌, map, filter, Option, Some, None, refl, ap, subst, ◌∙◌, arith}
+use Rattle.std.proofs.Common.{◌≡◌, ℕ, ◌+◌, Bool, true, false, cond, List, [], ◌∷◌, map, filter, Option, Some, None, subst, ◌∙◌}
 use Rattle.std.specs.List.{AllByRecursion}
 use Rattle.std.specs.Prelude.{take, drop}
 use Rattle.std.specs.Option.{option_map}
 use Rattle.std.specs.Str.{bytes_eq}
-use Rattle.std.proofs.lemmas.Bool.Decides.{nat_tests}
 use Rattle.std.proofs.lemmas.Slice.Eq.{bytes_eq-Decides}
-use Rattle.ftn_base.specs.Letters.{fold_byte, folded}
+use Rattle.ftn_base.specs.Letters.{folded}
+use Rattle.ftn_base.proofs.NameLemmas.{folded_twice}
 use Rattle.std.specs.List.{onto_first}
 use Rattle.free_scan.specs.Pieces.{Piece, pieces_of}
 use Rattle.free_scan.specs.Spelling.{Lexeme, word, whole, mark, lexeme_of, lexeme_rows, is_some_row, token_lines, rows_of}
@@ -19,13 +19,6 @@ abbrev pub IsLower : Lexeme → Type 0
 IsLower (word name) = bytes_eq (folded name) name ≡ true
 IsLower (whole n) = Unit {0}
 IsLower (mark text) = Unit {0}
-
-fold_twice : (b : ℕ) → fold_byte (fold_byte b) ≡ fold_byte b
-fold_twice b = grind (arith, nat_tests)
-
-folded_twice : (text : List ℕ) → folded (folded text) ≡ folded text
-folded_twice [] = refl
-folded_twice (b ∷ text) = ap (λ x. x ∷ folded (folded text)) (fold_twice b) ∙ ap (λ xs. fold_byte b ∷ xs) (folded_twice text)
 
 abbrev TokenIsLower : PlacedPiece → Type 0
 TokenIsLower made = IsLower (lexeme_of made)

@@ -1,10 +1,11 @@
 -- A text spells at most one program, and reading finds it.
 use Rattle.std.proofs.Common.{◌≡◌, ℕ, Bool, true, false, cond, List, map, Option, Some, None, refl, sym, ap, ◌∙◌}
 use Rattle.std.specs.Option.{option_map}
+use Rattle.std.proofs.lemmas.Option.{same_Some}
 use Rattle.free_scan.specs.Clean.{is_clean}
 use Rattle.free_scan.specs.FirstForm.{IsProgramText, Lacks}
 use Rattle.free_scan.specs.Lines.{is_plain}
-use Rattle.free_scan.specs.Reading.{◌>>=◌, read_clean, read_program}
+use Rattle.free_scan.specs.steps.Reading.{◌>>=◌, read_clean, read_program}
 use Rattle.free_scan.specs.Spelling.{lexeme_of, lexeme_rows, rows_of, spell_program}
 use Rattle.free_scan.specs.Tokens.{placed_pieces_of}
 use Rattle.free_scan.specs.declared.first_form.program.Program.{Program}
@@ -20,13 +21,10 @@ pub text_back : (text : List ℕ) (program : Program) → IsProgramText text pro
 text_back text program h =
     program_back program (is_filled program h.clean) (rows_good program h.clean (text_is_lower text (spell_program program) h.spelled))
 
-one_some : {A : Type 0} (x y : A) → ◌≡◌ {A = Option A} (Some x) (Some y) → x ≡ y
-one_some x y e = cc
-
 pub one_program : (text : List ℕ) (first second : Program) → IsProgramText text first → IsProgramText text second → first ≡ second
 one_program text first second p q =
-    let rows : spell_program first ≡ spell_program second = one_some _ _ (sym p.spelled ∙ q.spelled) in
-    one_some _ _ (sym (text_back text first p) ∙ ap read_program rows ∙ text_back text second q)
+    let rows : spell_program first ≡ spell_program second = same_Some _ _ (sym p.spelled ∙ q.spelled) in
+    same_Some _ _ (sym (text_back text first p) ∙ ap read_program rows ∙ text_back text second q)
 
 pub lacks_not_plain : (text : List ℕ) → is_plain text ≡ false → Lacks text
 lacks_not_plain text h program p = let g : is_plain text ≡ true = p.plain in absurd cc
@@ -39,7 +37,7 @@ lacks_tokens text h program p =
 
 -- the rows of a text that spells the program
 rows_spelled : (text : List ℕ) (tokens : List PlacedPiece) (program : Program) → placed_pieces_of text ≡ Some tokens → IsProgramText text program → lexeme_rows tokens ≡ spell_program program
-rows_spelled text tokens program e p = one_some _ _ (sym (ap (option_map lexeme_rows) e) ∙ p.spelled)
+rows_spelled text tokens program e p = same_Some _ _ (sym (ap (option_map lexeme_rows) e) ∙ p.spelled)
 
 clean_back : (text : List ℕ) (program : Program) → IsProgramText text program → read_clean (spell_program program) ≡ Some program
 unfolding read_clean
@@ -53,7 +51,7 @@ lacks_program text tokens e h program p =
     absurd cc
 
 picked : (b : Bool) (q program : Program) → is_clean q ≡ b → cond b (Some q) None ≡ Some program → (Some q ≡ Some program) × (is_clean program ≡ true)
-picked true q program h e = (e, sym (ap is_clean (one_some q program e)) ∙ h)
+picked true q program h e = (e, sym (ap is_clean (same_Some q program e)) ∙ h)
 picked false q program h e = absurd cc
 
 clean_true : (read : Option Program) (program : Program) → (read >>= λ q. cond (is_clean q) (Some q) None) ≡ Some program → (read ≡ Some program) × (is_clean program ≡ true)

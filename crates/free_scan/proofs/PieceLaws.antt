@@ -1,5 +1,5 @@
 -- The pieces of a text without continuations: how large they are, that the computation finds them, and that there are no others.
-use Rattle.std.proofs.Common.{◌≡◌, ℕ, zero, suc, ◌+◌, ◌-◌, ◌≤◌, Bool, true, false, List, [], ◌∷◌, length, drop, Option, Some, None, refl, ap, sym, ◌∙◌, arith, length-drop}
+use Rattle.std.proofs.Common.{◌≡◌, ℕ, zero, suc, ◌+◌, ◌-◌, ◌≤◌, true, false, List, [], ◌∷◌, length, drop, Option, Some, None, refl, ap, sym, ◌∙◌, arith, length-drop, Bool}
 use Rattle.std.specs.Prelude.{◌==◌, ◌&&◌, not, nat_le}
 use Rattle.std.specs.List.{prefix_len, sum_by}
 use Rattle.std.specs.Option.{option_map, option_map_or}
@@ -11,8 +11,9 @@ use Rattle.ftn_tree.specs.Code.{is_quote}
 use Rattle.ftn_tree.specs.declared.token.TokenKind.TheVariants as tokens
 use Rattle.ftn_tree.specs.declared.piece.PieceKind.TheVariants.{Token, Unclosed}
 use Rattle.ftn_tree.specs.Pieces.{Piece, is_mark, is_pair, one_mark, mark_at, dotted_len, point_at, number_at, constant_len, constant_at, front, ArePieces, pieces_within, pieces_of}
+use Rattle.ftn_tree.proofs.LineLaws.{begins_some}
 
--- a run of bytes is no longer than where it stands
+-- a run of bytes is no longer than where it stands. The name is for tactics, which take no hyphen
 pub run_fits : (p : ℕ → Bool) (xs : List ℕ) → prefix_len p xs ≤ length xs
 run_fits p xs = prefix_len-le-length p xs
 
@@ -33,16 +34,11 @@ mark_sized a [] = one_mark_sized a 1 (omega arith)
 mark_sized a (b ∷ rest) =
     cond_both (is_pair a b) _ _ (IsSized (suc (suc (length rest)))) (λ e. (omega arith, omega arith)) (λ e. one_mark_sized a (suc (suc (length rest))) (omega arith))
 
--- a text that begins with some byte isn't empty
-pub begun : (byte : ℕ) (rest : List ℕ) → begins_with byte rest ≡ true → 1 ≤ length rest
-begun byte [] e = absurd (cc)
-begun byte (b ∷ rest) e = omega arith
-
 dotted_within : (rest : List ℕ) → IsWithin (length rest) (dotted_len rest)
 dotted_within rest =
     let n : ℕ = prefix_len is_letter rest in
     cond_both (nat_le 1 n && begins_with 46 (drop n rest)) _ _ (IsWithin (length rest))
-    (λ e. let point : 1 ≤ length (drop n rest) = begun 46 (drop n rest) (and_parts (nat_le 1 n) (begins_with 46 (drop n rest)) e).1 in
+    (λ e. let point : 1 ≤ length (drop n rest) = begins_some 46 (drop n rest) (and_parts (nat_le 1 n) (begins_with 46 (drop n rest)) e).1 in
     omega (arith, length-drop n rest))
     (λ e. tt)
 
@@ -55,16 +51,16 @@ placed f other most (Some n) within some none = some n within
 point_sized : (rest : List ℕ) → IsSized (suc (length rest)) (point_at rest)
 point_sized rest =
     let n : ℕ = prefix_len is_digit rest in
-    let fits : n ≤ length rest = run_fits is_digit rest in
+    let fits : n ≤ length rest = prefix_len-le-length is_digit rest in
     placed (λ k. (Token tokens.Dotted, 1 + k)) _ (length rest) (dotted_len rest) (dotted_within rest) (λ k le. (omega arith, omega arith))
     (cond_both (nat_le 1 n) _ _ (IsSized (suc (length rest))) (λ e. (omega arith, omega arith)) (λ e. (omega arith, omega arith)))
 
 number_sized : (n : ℕ) (rest : List ℕ) → 1 ≤ n → IsSized (n + length rest) (number_at n rest)
 number_sized n rest some =
-    cond_both (begins_with 95 rest) _ _ (IsSized (n + length rest)) (λ e. (omega arith, omega (arith, run_fits is_name_byte rest))) (λ e.
+    cond_both (begins_with 95 rest) _ _ (IsSized (n + length rest)) (λ e. (omega arith, omega (arith, prefix_len-le-length is_name_byte rest))) (λ e.
     cond_both (begins_with 46 rest && option_map_or (λ k. false) (dotted_len (drop 1 rest)) true) _ _ (IsSized (n + length rest))
-    (λ e. let point : 1 ≤ length rest = begun 46 rest (and_parts (begins_with 46 rest) _ e).0 in
-    (omega arith, omega (arith, length-drop 1 rest, run_fits is_digit (drop 1 rest))))
+    (λ e. let point : 1 ≤ length rest = begins_some 46 rest (and_parts (begins_with 46 rest) _ e).0 in
+    (omega arith, omega (arith, length-drop 1 rest, prefix_len-le-length is_digit (drop 1 rest))))
     (λ e. (some, omega arith)))
 
 grown : (k most : ℕ) (f : ℕ → ℕ) (o : Option ℕ) → ((n : ℕ) → f n ≡ k + n) → IsWithin most o → IsWithin (k + most) (option_map f o)
@@ -95,7 +91,7 @@ constant_sized quote rest =
 digits_sized : (rest : List ℕ) → IsSized (suc (length rest)) (number_at (1 + prefix_len is_digit rest) (drop (prefix_len is_digit rest) rest))
 digits_sized rest =
     let n : ℕ = prefix_len is_digit rest in
-    let fits : n ≤ length rest = run_fits is_digit rest in
+    let fits : n ≤ length rest = prefix_len-le-length is_digit rest in
     let all : 1 + n + length (drop n rest) ≡ suc (length rest) = omega (arith, length-drop n rest) in
     rw all at (number_sized (1 + n) (drop n rest) (omega arith))
 
@@ -104,7 +100,7 @@ pub front_size : (b : ℕ) (rest : List ℕ) → (1 ≤ (front b rest).1) × ((f
 front_size b rest =
     let n : ℕ = suc (length rest) in
     cond_both (is_blank b) _ _ (IsSized n) (λ e. (omega arith, omega arith)) (λ e.
-    cond_both (is_letter b) _ _ (IsSized n) (λ e. (omega arith, omega (arith, run_fits is_name_byte rest))) (λ e.
+    cond_both (is_letter b) _ _ (IsSized n) (λ e. (omega arith, omega (arith, prefix_len-le-length is_name_byte rest))) (λ e.
     cond_both (is_digit b) _ _ (IsSized n) (λ e. digits_sized rest) (λ e.
     cond_both (b == 46) _ _ (IsSized n) (λ e. point_sized rest) (λ e.
     cond_both (is_quote b) _ _ (IsSized n) (λ e. constant_sized b rest) (λ e.

@@ -1,8 +1,8 @@
 -- The pieces of a text: how large they are, that the computation finds them, and that there are no others.
-use Rattle.std.proofs.Common.{◌≡◌, ℕ, zero, suc, ◌+◌, ◌≤◌, Bool, List, [], ◌∷◌, length, drop, Option, Some, None, refl, ap, ◌∙◌, arith, length-drop, take, get_or, ◌-◌}
+use Rattle.std.proofs.Common.{◌≡◌, ℕ, zero, suc, ◌+◌, ◌≤◌, List, [], ◌∷◌, length, drop, Option, Some, None, refl, ap, ◌∙◌, arith, length-drop, take, get_or, ◌-◌}
 use Rattle.std.proofs.lemmas.List.{take_all}
 use Rattle.std.specs.Prelude.{◌==◌, not, IfSome}
-use Rattle.std.specs.List.{prefix_len, sum_by}
+use Rattle.std.specs.List.{sum_by}
 use Rattle.std.specs.Option.{option_map, option_and_then}
 use Rattle.std.proofs.lemmas.Bool.{cond_both}
 use Rattle.std.proofs.lemmas.List.Sums.{prefix_len-le-length, sum_by-cons}
@@ -10,10 +10,6 @@ use Rattle.ftn_base.specs.Letters.{is_letter, is_digit, is_name_byte}
 use Rattle.ftn_tree.specs.Lines.{is_line_feed}
 use Rattle.ftn_tree.specs.Pieces.{is_mark, is_pair}
 use Rattle.free_scan.specs.Pieces.{Piece, mark_at, front, ArePieces, pieces_within, pieces_of}
-
--- a run of bytes is no longer than where it stands
-pub run_fits : (p : ℕ → Bool) (xs : List ℕ) → prefix_len p xs ≤ length xs
-run_fits p xs = prefix_len-le-length p xs
 
 -- a piece, if there is one, has a byte at least, and no more than there are
 abbrev pub IsSized : ℕ → Option Piece → Type 0

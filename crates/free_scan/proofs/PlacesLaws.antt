@@ -1,14 +1,13 @@
 -- A text breaks rules at its own places alone.
-use Rattle.std.proofs.Common.{◌≡◌, ℕ, zero, suc, ◌+◌, ◌-◌, ◌≤◌, ◌<◌, ◌⊎◌, inl, inr, Bool, true, false, List, [], ◌∷◌, ◌++◌, length, take, drop, Option, None, Some, refl, ◌∙◌, arith, length-drop}
+use Rattle.std.proofs.Common.{◌≡◌, ℕ, zero, suc, ◌+◌, ◌-◌, ◌≤◌, ◌<◌, ◌⊎◌, inl, inr, Bool, true, false, List, [], ◌∷◌, ◌++◌, length, take, drop, Option, None, Some, refl, ◌∙◌, arith}
 use Rattle.std.specs.Prelude.{⊤, ◌&&◌, ◌==◌, not, nat_lt, if◌then◌else◌}
-use Rattle.std.specs.List.{ends_with, filter, flat_map, slice_split, onto_first}
+use Rattle.std.specs.List.{filter, flat_map, slice_split, onto_first}
 use Rattle.std.proofs.lemmas.Bool.{cond_both}
 use Rattle.std.proofs.lemmas.Bool.Decides.{nat_tests}
-use Rattle.std.proofs.lemmas.List.{length-take}
 use Rattle.std.proofs.lemmas.List.Concat.{flat_map-cons}
 use Rattle.std.proofs.lemmas.List.Sums.{prefix_len-le-length}
 use Rattle.ftn_base.specs.Letters.{is_blank}
-use Rattle.ftn_base.specs.Limits.{continuation_limit}
+use Rattle.ftn_base.specs.Limits.{continuation_limit, line_limit}
 use Rattle.ftn_base.specs.declared.name.Edition.{Edition}
 use Rattle.ftn_base.specs.declared.fault.FaultKind.{FaultKind}
 use Rattle.ftn_base.specs.declared.fault.FaultKind.TheVariants as kinds
@@ -16,14 +15,15 @@ use Rattle.ftn_tree.specs.declared.piece.PieceKind.{PieceKind}
 use Rattle.ftn_tree.specs.declared.piece.PieceKind.TheVariants as pieces
 use Rattle.ftn_tree.specs.declared.piece.Spot.{Spot}
 use Rattle.ftn_tree.specs.declared.token.TokenKind.TheVariants as tokens
-use Rattle.ftn_tree.specs.Breaks.{Among, Breach, breaches_from, breaches_of, end_breaches, line_breaches, line_limit, long_line, only_if, piece_breaches, wrong_bytes}
-use Rattle.ftn_tree.specs.Code.{before_mark, code_len, code_of, goes_on, is_outside, is_wrong, leads, quote_after, stem_len}
-use Rattle.ftn_tree.specs.Lines.{Line, begins_with, code_lines, indent, is_comment, is_line_feed, lines_of, placed, without_return}
+use Rattle.ftn_tree.specs.Breaks.{Among, Breach, breaches_from, breaches_of, end_breaches, line_breaches, long_line, only_if, piece_breaches, wrong_bytes}
+use Rattle.ftn_tree.specs.Code.{goes_on, is_outside, is_wrong, quote_after}
+use Rattle.ftn_tree.specs.Lines.{Line, code_lines, indent, is_comment, is_line_feed, lines_of, placed, without_return}
 use Rattle.ftn_tree.specs.Logical.{Carried, Glyph, byte, gap, cut, after_line, count_at, glyph, glyphs, joins, is_carried, line_glyphs, open_at, row_from, row_of, said, skipped, stands_alone, text_of, text_glyphs}
 use Rattle.ftn_tree.specs.Pieces.{Piece, pieces_of}
 use Rattle.ftn_tree.specs.Reading.{each_piece, over_cells, over_run, runs_of}
-use Rattle.free_scan.specs.Firsts.{IsFirstOf}
-use Rattle.free_scan.specs.RowsLeft.{wrongs_left}
+use Rattle.ftn_tree.proofs.LineLaws.{text_by, shorter, span, span_of_text}
+use Rattle.free_scan.specs.steps.Firsts.{IsFirstOf}
+use Rattle.free_scan.specs.steps.RowsLeft.{wrongs_left}
 use Rattle.free_scan.proofs.FirstsLaws.{among_either}
 use Rattle.free_scan.proofs.RowsLaws.{wrongs_of_runs}
 
@@ -58,26 +58,9 @@ abbrev pub AreWithin : ℕ → List Line → Type 0
 AreWithin n [] = ⊤
 AreWithin n (line ∷ lines) = (line.at + length line.body ≤ n) × AreWithin n lines
 
-abbrev pub span : List (List ℕ) → ℕ
-span [] = 0
-span (piece ∷ pieces) = length piece + 1 + span pieces
-
 span_first : (b : ℕ) (pieces : List (List ℕ)) → span (onto_first b pieces) ≤ 2 + span pieces
 span_first b [] = omega arith
 span_first b (piece ∷ pieces) = omega arith
-
-onto_some : (b : ℕ) (pieces : List (List ℕ)) (n : ℕ) → span pieces ≡ n + 1 → span (onto_first b pieces) ≡ n + 2
-onto_some b [] n is = absurd (omega (arith, is))
-onto_some b (piece ∷ pieces) n is = omega (arith, is)
-
-span_of_text : (text : List ℕ) → span (slice_split is_line_feed text) ≡ length text + 1
-span_of_text [] = refl
-span_of_text (b ∷ rest) =
-    let more : span (slice_split is_line_feed rest) ≡ length rest + 1 = span_of_text rest in
-    cond_both (is_line_feed b) _ _ (λ pieces. span pieces ≡ suc (length rest) + 1) (λ e. omega arith) (λ e. onto_some b (slice_split is_line_feed rest) (length rest) more ∙ omega arith)
-
-shorter : (body : List ℕ) → length (without_return body) ≤ length body
-shorter body = cond_both (ends_with ◌==◌ body (13 ∷ [])) (take (length body - 1) body) body (λ made. length made ≤ length body) (λ e. omega (arith, length-take (length body - 1) body)) (λ e. omega arith)
 
 placed_within : (n number at : ℕ) (pieces : List (List ℕ)) → at + span pieces ≤ n + 1 → AreWithin n (placed number at pieces)
 placed_within n number at [] fits = tt
@@ -114,10 +97,6 @@ wrong_by n within at (b ∷ bytes) fits =
 indent_by : (body : List ℕ) → indent body ≤ length body
 indent_by body = prefix_len-le-length is_blank body
 
-begins_some : (b : ℕ) (bytes : List ℕ) → begins_with b bytes ≡ true → 1 ≤ length bytes
-begins_some b [] is = absurd (cc)
-begins_some b (c ∷ bytes) is = omega arith
-
 left_true : (a b : Bool) → a && b ≡ true → a ≡ true
 left_true true b is = refl
 left_true false b is = is
@@ -125,34 +104,6 @@ left_true false b is = is
 right_true : (a b : Bool) → a && b ≡ true → b ≡ true
 right_true true b is = is
 right_true false b is = absurd (cc)
-
-leads_by : (body : List ℕ) → leads body ≡ true → indent body + 1 ≤ length body
-leads_by body is =
-    let some : 1 ≤ length (drop (indent body) body) = begins_some 38 (drop (indent body) body) is in
-    let left : length (drop (indent body) body) ≡ length body - indent body = length-drop (indent body) body in
-    omega arith
-
-skipped_by : (before : Option Carried) (body : List ℕ) → skipped before body ≤ length body
-skipped_by before body =
-    cond_both (stands_alone before body) _ _ (λ n. n ≤ length body) (λ e. omega arith)
-    (λ e. cond_both (joins before body) _ _ (λ n. n ≤ length body)
-    (λ is. leads_by body (right_true (is_carried before) (leads body) (left_true (is_carried before && leads body) (not (stands_alone before body)) is)))
-    (λ f. omega arith))
-
-code_by : (within : Option ℕ) (bytes : List ℕ) → length (code_of within bytes) ≤ length bytes
-code_by within bytes = omega (arith, length-take (code_len within bytes) bytes)
-
-mark_by : (bytes : List ℕ) → length (before_mark bytes) ≤ length bytes
-mark_by bytes = cond_both (goes_on bytes) _ _ (λ made. length made ≤ length bytes) (λ e. omega (arith, length-take (stem_len bytes - 1) bytes)) (λ e. omega arith)
-
-text_by : (before : Option Carried) (body : List ℕ) → skipped before body + length (text_of before body) ≤ length body
-text_by before body =
-    let rest : List ℕ = drop (skipped before body) body in
-    let left : length (drop (skipped before body) body) ≡ length body - skipped before body = length-drop (skipped before body) body in
-    let skips : skipped before body ≤ length body = skipped_by before body in
-    let code : length (said before body) ≤ length (drop (skipped before body) body) = code_by (open_at before body) (drop (skipped before body) body) in
-    let text : length (text_of before body) ≤ length (said before body) = mark_by (said before body) in
-    omega arith
 
 abbrev pub IsMarkBy : ℕ → Option Carried → Type 0
 IsMarkBy n None = ⊤

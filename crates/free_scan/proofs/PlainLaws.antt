@@ -8,9 +8,9 @@ use Rattle.std.proofs.lemmas.Bool.Decides.{nat_tests}
 use Rattle.ftn_base.specs.Letters.{is_within}
 use Rattle.ftn_tree.specs.Lines.{is_line_feed}
 use Rattle.std.specs.List.{onto_first}
-use Rattle.ftn_tree.specs.Breaks.{line_limit}
+use Rattle.ftn_base.specs.Limits.{line_limit}
 use Rattle.free_scan.specs.Lines.{lines, is_plain_byte, is_plain_line, is_plain}
-use Rattle.free_scan.specs.PlainWalk.{plain_from}
+use Rattle.free_scan.specs.steps.PlainWalk.{plain_from}
 
 -- whether lines are plain, where that many plain bytes stand before the first
 abbrev pub plain_after : ℕ → List (List ℕ) → Bool
@@ -27,7 +27,7 @@ none_before : (ls : List (List ℕ)) → plain_after 0 ls ≡ list_all is_plain_
 none_before [] = refl
 none_before (line ∷ rest) =
     let size : 0 + length line ≡ length line = omega arith in
-    rw size (grouped (ends_with ◌==◌ line (10 ∷ [])) (nat_le (length line) 133) (list_all is_plain_byte line) (list_all is_plain_line rest))
+    rw size (grouped (ends_with ◌==◌ line (10 ∷ [])) (nat_le (length line) (line_limit + 1)) (list_all is_plain_byte line) (list_all is_plain_line rest))
 
 shuffled : (w e n a r : Bool) → w && (e && n && a && r) ≡ e && n && (w && a) && r
 shuffled true true true true r = refl
@@ -61,7 +61,7 @@ flipped b is = grind (arith, nat_tests)
 not_zero : (count : ℕ) → count + 1 == 0 ≡ false
 not_zero count = grind (arith, nat_tests)
 
-one_up : (count : ℕ) → nat_le count 132 ≡ nat_le (count + 1) 133
+one_up : (count : ℕ) → nat_le count line_limit ≡ nat_le (count + 1) (line_limit + 1)
 one_up count = grind (arith, nat_tests)
 
 -- the end of a line of two bytes and more
@@ -78,7 +78,7 @@ one_more count b ([] ∷ rest) other = rw (flipped b other) (never (is_within 32
 one_more count b ((c ∷ line) ∷ rest) other =
     let size : count + 1 + suc (length line) ≡ count + suc (suc (length line)) = omega arith in
     rw (other, ← same_end b c line, size)
-    (shuffled (is_within 32 126 b) (ends_with ◌==◌ (c ∷ line) (10 ∷ [])) (nat_le (count + suc (suc (length line))) 133) (list_all is_plain_byte (c ∷ line)) (list_all is_plain_line rest))
+    (shuffled (is_within 32 126 b) (ends_with ◌==◌ (c ∷ line) (10 ∷ [])) (nat_le (count + suc (suc (length line))) (line_limit + 1)) (list_all is_plain_byte (c ∷ line)) (list_all is_plain_line rest))
 
 -- one byte of the walk
 step : (count b : ℕ) (rest : List ℕ) (t : Bool) → is_line_feed b ≡ t
@@ -86,7 +86,7 @@ step : (count b : ℕ) (rest : List ℕ) (t : Bool) → is_line_feed b ≡ t
     → plain_from count (b ∷ rest) ≡ plain_after count (lines (b ∷ rest))
 step count b rest true is goes_on =
     let same : b ≡ 10 = eqb-true b 10 is in
-    rw (same, one_up count, goes_on 0, none_before (lines rest)) (with_true (nat_le (count + 1) 133) (list_all is_plain_line (lines rest)))
+    rw (same, one_up count, goes_on 0, none_before (lines rest)) (with_true (nat_le (count + 1) (line_limit + 1)) (list_all is_plain_line (lines rest)))
 step count b rest false is goes_on =
     rw is (ap (λ more. is_within 32 126 b && more) (goes_on (count + 1)) ∙ one_more count b (lines rest) is)
 

@@ -4,6 +4,7 @@ use Rattle.std.specs.Prelude.{◌&&◌, ◌||◌, not, ◌==◌, if◌then◌els
 use Rattle.std.specs.List.{list_any}
 use Rattle.std.proofs.lemmas.Bool.Decides.{nat_tests}
 use Rattle.std.proofs.lemmas.List.{length-append, length-drop, length-take-le}
+use Rattle.std.proofs.lemmas.Option.{same_Some}
 use Rattle.ftn_base.specs.declared.name.Edition.{Edition}
 use Rattle.ftn_base.specs.declared.fault.FaultKind.TheVariants as kinds
 use Rattle.ftn_tree.specs.declared.token.TokenKind.{TokenKind}
@@ -16,8 +17,8 @@ use Rattle.ftn_tree.specs.Breaks.{only_if, piece_breaches, wrong_bytes}
 use Rattle.ftn_tree.specs.Code.{is_outside, is_wrong, open_after, quote_after}
 use Rattle.ftn_tree.specs.Logical.{byte, cut, glyph, glyphs, is_cut}
 use Rattle.ftn_tree.specs.Reading.{last_of, token_of, value_of}
-use Rattle.free_scan.specs.Scanning.{State, IsWithin, finished, flushed, pushed, taken, taken_all}
-use Rattle.free_scan.specs.PlainText.{adjoining, is_plain, plain_end, row_breaches, row_tokens, with_row}
+use Rattle.free_scan.specs.steps.Scanning.{State, IsWithin, finished, flushed, pushed, taken, taken_all}
+use Rattle.free_scan.specs.steps.PlainText.{adjoining, is_plain, plain_end, row_breaches, row_tokens, with_row}
 use Rattle.free_scan.proofs.ScanLaws.{within_finished, within_flushed}
 
 no_both : (a : Bool) → (a && false) ≡ false
@@ -32,9 +33,6 @@ two_false false false e = (refl, refl)
 if_some : {A : Type 0} (c : Bool) (o : Option A) (x : A) → (if c then o else None) ≡ Some x → (c ≡ true) × (o ≡ Some x)
 if_some true o x e = (refl, e)
 if_some false o x e = absurd (cc)
-
-same_some : {A : Type 0} (x y : A) → Some x ≡ Some y → x ≡ y
-same_some x y e = cc
 
 -- a byte that stands for itself
 plain_parts : (q : Option ℕ) (b : ℕ) → is_plain q b ≡ true → ((is_outside q && b == 59) ≡ false) × (is_wrong q b ≡ false)
@@ -89,7 +87,7 @@ plain_right q last at (b ∷ row) e =
     ap (λ w. only_if w (at, kinds.BadByte) ++ wrong_bytes (quote_after q b) (at + 1) row) are.1 ∙ plain_right (quote_after q b) last (at + 1) row parts.1
 
 pub plain_open : (q last : Option ℕ) (row : List ℕ) → plain_end q row ≡ Some last → open_after q row ≡ last
-plain_open q last [] e = same_some q last e
+plain_open q last [] e = same_Some q last e
 plain_open q last (b ∷ row) e =
     let parts : (is_plain q b ≡ true) × (plain_end (quote_after q b) row ≡ Some last) = next_plain q last b row e in
     plain_open (quote_after q b) last row parts.1

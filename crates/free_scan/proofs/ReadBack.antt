@@ -6,7 +6,8 @@ use Rattle.std.specs.Option.{option_map}
 use Rattle.std.specs.Str.{bytes_eq}
 use Rattle.std.proofs.lemmas.Bool.{and_right}
 use Rattle.std.proofs.lemmas.Slice.Eq.{bytes_eq-Decides}
-use Rattle.free_scan.specs.Reading.{◌>>=◌, is_closing, is_comma, is_declaration, is_lower_name, read_all, read_body, read_declaration, read_name, read_names, read_operand, read_program, read_sign, read_statement, read_sum, read_sums, read_terms, says_word, word_of}
+use Rattle.ftn_base.specs.Limits.{greatest_integer}
+use Rattle.free_scan.specs.steps.Reading.{◌>>=◌, is_closing, is_comma, is_declaration, is_lower_name, read_all, read_body, read_declaration, read_name, read_names, read_operand, read_program, read_sign, read_statement, read_sum, read_sums, read_terms, says_word, word_of}
 use Rattle.free_scan.specs.Spelling.{Lexeme, word, whole, mark, commas, is_some_row, spell_declaration, spell_operand, spell_program, spell_sign, spell_statement, spell_sum, spell_terms}
 use Rattle.free_scan.specs.declared.first_form.program.Operand.{Operand}
 use Rattle.free_scan.specs.declared.first_form.program.Operand.TheVariants as operands
@@ -22,7 +23,7 @@ use Rattle.free_scan.proofs.Whole.{program_at}
 -- a lexeme that reading takes: a name in lower case, a whole number that fits, any mark
 abbrev pub IsGood : Lexeme → Type 0
 IsGood (word name) = is_lower_name name ≡ true
-IsGood (whole n) = nat_le n 2147483647 ≡ true
+IsGood (whole n) = nat_le n greatest_integer ≡ true
 IsGood (mark text) = Unit {0}
 
 abbrev pub Good : List Lexeme → Type 0

@@ -7,7 +7,9 @@ use Rattle.std.specs.Str.{bytes_eq}
 use Rattle.std.proofs.lemmas.Bool.{and_parts}
 use Rattle.std.proofs.lemmas.List.{take-append-drop}
 use Rattle.std.proofs.lemmas.Slice.Eq.{bytes_eq-Decides}
-use Rattle.free_scan.specs.Reading.{◌>>=◌, and_last, fitting, is_closing, is_comma, is_declaration, is_lower_name, read_all, read_body, read_declaration, read_name, read_names, read_opening, read_operand, read_print, read_program, read_sign, read_statement, read_sum, read_sums, read_term, read_terms, says_mark, says_word, word_of}
+use Rattle.ftn_base.specs.Limits.{greatest_integer}
+use Rattle.std.proofs.lemmas.Option.{same_Some}
+use Rattle.free_scan.specs.steps.Reading.{◌>>=◌, and_last, fitting, is_closing, is_comma, is_declaration, is_lower_name, read_all, read_body, read_declaration, read_name, read_names, read_opening, read_operand, read_print, read_program, read_sign, read_statement, read_sum, read_sums, read_term, read_terms, says_mark, says_word, word_of}
 use Rattle.free_scan.specs.Spelling.{Lexeme, word, whole, mark, commas, is_some_row, spell_declaration, spell_operand, spell_program, spell_sign, spell_statement, spell_sum, spell_terms}
 use Rattle.free_scan.specs.declared.first_form.program.Operand.{Operand}
 use Rattle.free_scan.specs.declared.first_form.program.Operand.TheVariants as operands
@@ -34,9 +36,6 @@ tested : {A : Type 0} (b : Bool) (o : Option A) (y : A) → cond b o None ≡ So
 tested true o y e = (refl, e)
 tested false o y e = absurd cc
 
-some_is : {A : Type 0} (x y : A) → ◌≡◌ {A = Option A} (Some x) (Some y) → x ≡ y
-some_is x y e = cc
-
 same : (a b : List ℕ) → bytes_eq a b ≡ true → a ≡ b
 same a b h = (bytes_eq-Decides a b).0 h
 
@@ -53,7 +52,7 @@ worded text (whole n) h = absurd cc
 -- ---- operands and sums
 
 word_true : (lexeme : Lexeme) (name : List ℕ) → word_of lexeme ≡ Some name → lexeme ≡ word name
-word_true (word other) name e = ap word (some_is other name (tested (is_lower_name other) (Some other) name e).1)
+word_true (word other) name e = ap word (same_Some other name (tested (is_lower_name other) (Some other) name e).1)
 word_true (whole n) name e = absurd cc
 word_true (mark text) name e = absurd cc
 
@@ -63,14 +62,14 @@ operand_true (word name) operand e =
     word_true (word name) found.0 found.1 ∙ ap spell_operand found.2
 operand_true (whole n) operand e =
     let found = mapped (λ value. operands.Whole value) (fitting n) operand e in
-    let fits = tested (nat_le n 2147483647) (Some n) found.0 found.1 in
-    ap whole (some_is n found.0 fits.1) ∙ ap spell_operand found.2
+    let fits = tested (nat_le n greatest_integer) (Some n) found.0 found.1 in
+    ap whole (same_Some n found.0 fits.1) ∙ ap spell_operand found.2
 operand_true (mark text) operand e = absurd cc
 
 sign_cases : (lexeme : Lexeme) (sign : Sign) (plus minus : Bool) → (plus ≡ true → lexeme ≡ mark (codes "+")) → (minus ≡ true → lexeme ≡ mark (codes "-"))
     → cond plus (Some signs.Plus) (cond minus (Some signs.Minus) None) ≡ Some sign → lexeme ≡ spell_sign sign
-sign_cases lexeme sign true minus p m e = p refl ∙ ap spell_sign (some_is signs.Plus sign e)
-sign_cases lexeme sign false true p m e = m refl ∙ ap spell_sign (some_is signs.Minus sign e)
+sign_cases lexeme sign true minus p m e = p refl ∙ ap spell_sign (same_Some signs.Plus sign e)
+sign_cases lexeme sign false true p m e = m refl ∙ ap spell_sign (same_Some signs.Minus sign e)
 sign_cases lexeme sign false false p m e = absurd cc
 
 sign_true : (lexeme : Lexeme) (sign : Sign) → read_sign lexeme ≡ Some sign → lexeme ≡ spell_sign sign
@@ -85,10 +84,10 @@ term_true first second term e =
     let a = bound (read_sign first) (λ sign. read_operand second >>= λ operand. Some (record { sign = sign; operand = operand })) term e in
     let b = bound (read_operand second) (λ operand. Some (record { sign = a.0; operand = operand })) term a.2 in
     let made : Term = record { sign = a.0; operand = b.0 } in
-    ap (λ x. x ∷ second ∷ []) (sign_true first a.0 a.1) ∙ ap (λ x. spell_sign a.0 ∷ x ∷ []) (operand_true second b.0 b.1) ∙ ap spell_term (some_is made term b.2)
+    ap (λ x. x ∷ second ∷ []) (sign_true first a.0 a.1) ∙ ap (λ x. spell_sign a.0 ∷ x ∷ []) (operand_true second b.0 b.1) ∙ ap spell_term (same_Some made term b.2)
 
 terms_true : (row : List Lexeme) (terms : List Term) → read_terms row ≡ Some terms → row ≡ spell_terms terms
-terms_true [] terms e = ap spell_terms (some_is [] terms e)
+terms_true [] terms e = ap spell_terms (same_Some [] terms e)
 terms_true (first ∷ []) terms e = absurd cc
 terms_true (first ∷ second ∷ rest) terms e =
     let a = bound (read_term first second) (λ term. option_map (λ ts. term ∷ ts) (read_terms rest)) terms e in
@@ -102,7 +101,7 @@ sum_true (first ∷ rest) sum e =
     let a = bound (read_operand first) (λ operand. read_terms rest >>= λ terms. Some (record { first = operand; rest = terms })) sum e in
     let b = bound (read_terms rest) (λ terms. Some (record { first = a.0; rest = terms })) sum a.2 in
     let made : Sum = record { first = a.0; rest = b.0 } in
-    ap (λ x. x ∷ rest) (operand_true first a.0 a.1) ∙ ap (λ xs. spell_operand a.0 ∷ xs) (terms_true rest b.0 b.1) ∙ ap spell_sum (some_is made sum b.2)
+    ap (λ x. x ∷ rest) (operand_true first a.0 a.1) ∙ ap (λ xs. spell_operand a.0 ∷ xs) (terms_true rest b.0 b.1) ∙ ap spell_sum (same_Some made sum b.2)
 
 -- ---- lists with commas between
 
@@ -128,7 +127,7 @@ split_joined (x ∷ xs) = join_step (is_comma x) x (slice_split is_comma xs) xs 
 
 each_true : {A B : Type 0} (spell : A → B) (read : B → Option A) (true_of : (b : B) (a : A) → read b ≡ Some a → b ≡ spell a) (bs : List B) (xs : List A)
     → read_all read bs ≡ Some xs → bs ≡ map spell xs
-each_true spell read true_of [] xs e = ap (map spell) (some_is [] xs e)
+each_true spell read true_of [] xs e = ap (map spell) (same_Some [] xs e)
 each_true spell read true_of (b ∷ bs) xs e =
     let p = bound (read b) (λ y. option_map (λ ys. y ∷ ys) (read_all read bs)) xs e in
     let q = mapped (λ ys. p.0 ∷ ys) (read_all read bs) xs p.2 in
@@ -176,7 +175,7 @@ assignment_true target row statement e =
     let b = bound (read_sum row) (λ sum. Some (statements.Assign a.0 sum)) statement a.2 in
     ap (λ x. x ∷ mark (codes "=") ∷ row) (word_true target a.0 a.1)
     ∙ ap (λ xs. word a.0 ∷ mark (codes "=") ∷ xs) (sum_true row b.0 b.1)
-    ∙ ap spell_statement (some_is (statements.Assign a.0 b.0) statement b.2)
+    ∙ ap spell_statement (same_Some (statements.Assign a.0 b.0) statement b.2)
 
 statement_cases : (first second : Lexeme) (rest : List Lexeme) (statement : Statement) (assigns prints : Bool)
     → (assigns ≡ true → second ≡ mark (codes "=")) → (prints ≡ true → first ∷ second ∷ [] ≡ word (codes "print") ∷ mark (codes "*") ∷ [])
@@ -229,7 +228,7 @@ body_true name rows program e =
     let a = bound (read_all read_declaration (take n rows)) (λ ds. read_all read_statement (drop n rows) >>= λ ss. Some (record { name = name; declared = ds; statements = ss })) program e in
     let b = bound (read_all read_statement (drop n rows)) (λ ss. Some (record { name = name; declared = a.0; statements = ss })) program a.2 in
     let made : Program = record { name = name; declared = a.0; statements = b.0 } in
-    let is : made ≡ program = some_is made program b.2 in (
+    let is : made ≡ program = same_Some made program b.2 in (
       sym (take-append-drop n rows)
           ∙ ap (λ front. front ++ drop n rows) (each_true spell_declaration read_declaration declaration_true (take n rows) a.0 a.1)
           ∙ ap (λ back. map spell_declaration a.0 ++ back) (each_true spell_statement read_statement statement_true (drop n rows) b.0 b.1)

@@ -5,7 +5,8 @@ use Rattle.std.specs.List.{slice_split, onto_first}
 use Rattle.std.proofs.lemmas.List.Elements.{filter-append}
 use Rattle.std.proofs.lemmas.List.{append-nil}
 use Rattle.std.proofs.lemmas.Bool.Decides.{nat_tests}
-use Rattle.free_scan.specs.Reading.{is_comma, fitting}
+use Rattle.ftn_base.specs.Limits.{greatest_integer}
+use Rattle.free_scan.specs.steps.Reading.{is_comma, fitting}
 use Rattle.free_scan.specs.Spelling.{lexeme_of, number_of, is_some_row, token_lines, rows_of}
 use Rattle.free_scan.specs.Tokens.{is_line_end}
 use Rattle.free_scan.specs.declared.first_form.token.PlacedPiece.{PlacedPiece}
@@ -71,11 +72,11 @@ pub number_grows : (n : ℕ) (digits : List ℕ) → n ≤ number_after n digits
 number_grows n [] = omega arith
 number_grows n (digit ∷ digits) = omega (arith, number_grows (10 * n + (digit - 48)) digits)
 
-pub too_great : (n m : ℕ) (digits : List ℕ) → m ≡ number_after n digits → 2147483647 < n → None ≡ fitting m
-too_great n m digits e lt = let big : 2147483647 < m = omega (arith, number_grows n digits) in grind (arith, nat_tests)
+pub too_great : (n m : ℕ) (digits : List ℕ) → m ≡ number_after n digits → greatest_integer < n → None ≡ fitting m
+too_great n m digits e lt = let big : greatest_integer < m = omega (arith, number_grows n digits) in grind (arith, nat_tests)
 
 pub stops : (digits : List ℕ) (i n next : ℕ) → i < length digits → number_of digits ≡ number_after n (drop i digits)
-    → next ≡ 10 * n + (get_or digits i 0 - 48) → 2147483647 < next → None ≡ fitting (number_of digits)
+    → next ≡ 10 * n + (get_or digits i 0 - 48) → greatest_integer < next → None ≡ fitting (number_of digits)
 stops digits i n next lt e at big =
     let told : number_of digits ≡ number_after (10 * n + (get_or digits i 0 - 48)) (drop (suc i) digits) = e ∙ ap (number_after n) (drop-cons digits i 0 lt) in
     too_great next (number_of digits) (drop (suc i) digits) (rw at told) big

@@ -13,9 +13,9 @@ use Rattle.ftn_tree.specs.declared.token.Token.{Token}
 use Rattle.ftn_tree.specs.Breaks.{piece_breaches}
 use Rattle.ftn_tree.specs.Logical.{Glyph, byte, gap, cut, is_cut}
 use Rattle.ftn_tree.specs.Reading.{Cell, cell_of, is_gap, over_run, over_cells, ranges_from, range_if_some, runs_of, statement_tokens, token_of}
-use Rattle.free_scan.specs.Firsts.{earlier, least}
-use Rattle.free_scan.specs.Scanning.{State, finished, flushed, taken_all, new_range}
-use Rattle.free_scan.specs.RowsLeft.{before_first_of, rows_left, wrongs_left, ranges_left}
+use Rattle.free_scan.specs.steps.Firsts.{earlier, least}
+use Rattle.free_scan.specs.steps.Scanning.{State, finished, flushed, taken_all, new_range}
+use Rattle.free_scan.specs.steps.RowsLeft.{before_first_of, rows_left, wrongs_left, ranges_left}
 
 abbrev pub joined : List (List Token) → List Token
 joined rows = flat_map (λ row. row) rows

@@ -6,13 +6,14 @@ use Rattle.std.proofs.lemmas.Bool.Decides.{nat_tests}
 use Rattle.std.proofs.lemmas.List.{drop_more, drop-drop}
 use Rattle.std.proofs.lemmas.List.Elements.{All-head, All-tail}
 use Rattle.std.proofs.lemmas.List.Sums.{fold_more, fold-append}
+use Rattle.ftn_base.specs.Limits.{greatest_integer}
 use Rattle.ftn_tree.specs.declared.piece.PieceKind.{PieceKind}
 use Rattle.ftn_tree.specs.declared.piece.Spot.{Spot}
 use Rattle.ftn_tree.specs.Pieces.{Piece, front}
 use Rattle.ftn_tree.specs.Reading.{last_of, each_piece, over_run}
-use Rattle.ftn_tree.specs.Breaks.{Breach, greatest, number_of}
-use Rattle.free_scan.specs.Firsts.{earlier, least}
-use Rattle.free_scan.specs.Runs.{Fits}
+use Rattle.ftn_tree.specs.Breaks.{Breach, number_of}
+use Rattle.free_scan.specs.steps.Firsts.{earlier, least}
+use Rattle.free_scan.specs.steps.Runs.{Fits}
 use Rattle.free_scan.proofs.PieceLaws.{enough, less}
 
 -- one digit more
@@ -20,7 +21,7 @@ pub number_more : (digits : List ℕ) (i : ℕ) → i < length digits → number
 number_more digits i lt = fold_more (λ n digit. n * 10 + (digit - 48)) 0 digits i 0 lt
 
 -- a number that is cut off beyond the greatest one is too big where the number is
-pub capped : (n cut : ℕ) → cut ≡ min n 4294967296 → nat_lt greatest cut ≡ nat_lt greatest n
+pub capped : (n cut : ℕ) → cut ≡ min n 4294967296 → nat_lt greatest_integer cut ≡ nat_lt greatest_integer n
 capped n cut e = grind (arith, nat_tests)
 
 -- where each place fits, the last does

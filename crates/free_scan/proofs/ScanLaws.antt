@@ -14,8 +14,8 @@ use Rattle.ftn_tree.specs.Logical.{Glyph, glyph, glyphs, is_cut}
 use Rattle.ftn_tree.specs.Pieces.{Piece, front, pieces_within, pieces_of}
 use Rattle.ftn_tree.specs.Reading.{token_of, each_piece, over_run}
 use Rattle.ftn_tree.specs.Breaks.{Breach, only_if, wrong_bytes}
-use Rattle.free_scan.specs.Firsts.{earlier, least}
-use Rattle.free_scan.specs.Scanning.{State, IsWithin, pushed, flushed, finished, taken, taken_all}
+use Rattle.free_scan.specs.steps.Firsts.{earlier, least}
+use Rattle.free_scan.specs.steps.Scanning.{State, IsWithin, pushed, flushed, finished, taken, taken_all}
 
 few_pieces : (n : ℕ) (text : List ℕ) → length (pieces_within n text) ≤ n
 few_pieces n [] = omega arith

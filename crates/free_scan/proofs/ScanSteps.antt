@@ -6,7 +6,7 @@ use Rattle.free_scan.specs.declared.first_form.token.PieceKind.{PieceKind}
 use Rattle.free_scan.specs.declared.first_form.token.PlacedPiece.{PlacedPiece}
 use Rattle.free_scan.specs.Pieces.{Piece, front, pieces_within}
 use Rattle.free_scan.specs.Tokens.{is_kept, keep_if, line_after, placed_piece, placed_pieces_from, placed_pieces_of}
-use Rattle.free_scan.specs.Onward.{GoesOn}
+use Rattle.free_scan.specs.steps.Onward.{GoesOn}
 use Rattle.free_scan.proofs.PiecesLaws.{front_size, then_pieces}
 
 -- where nothing is found yet

@@ -2,7 +2,7 @@
 use Rattle.std.proofs.Common.{◌≡◌, ℕ, zero, suc, ◌≤◌, ◌-◌, ◌+◌, Bool, cond, List, [], ◌∷◌, ◌++◌, length, take, drop, get_or, map, Option, Some, None, refl, sym, ap, ◌∙◌, arith}
 use Rattle.std.specs.List.{prefix_len}
 use Rattle.std.proofs.lemmas.List.{take-map, drop-map}
-use Rattle.free_scan.specs.Reading.{◌>>=◌, and_last, is_closing, is_declaration, read_all, read_body, read_declaration, read_opening, read_program, read_statement}
+use Rattle.free_scan.specs.steps.Reading.{◌>>=◌, and_last, is_closing, is_declaration, read_all, read_body, read_declaration, read_opening, read_program, read_statement}
 use Rattle.free_scan.specs.Spelling.{Lexeme}
 use Rattle.free_scan.specs.declared.first_form.program.Program.{Program}
 use Rattle.free_scan.specs.declared.first_form.program.Statement.{Statement}

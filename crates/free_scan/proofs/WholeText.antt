@@ -9,9 +9,9 @@ use Rattle.ftn_tree.specs.Breaks.{Breach, breaches_from, breaches_of, long_line,
 use Rattle.ftn_tree.specs.Lines.{code_lines, line_starts, lines_of}
 use Rattle.ftn_tree.specs.Logical.{row_of}
 use Rattle.ftn_tree.specs.Reading.{over_cells, ranges_from, rows_of, runs_of, tokens_of}
-use Rattle.free_scan.specs.Firsts.{least, merged, IsFirstOf}
-use Rattle.free_scan.specs.RowsLeft.{rows_left}
-use Rattle.free_scan.specs.Scanning.{State, IsWithin, begun, finished, taken_all}
+use Rattle.free_scan.specs.steps.Firsts.{least, merged, IsFirstOf}
+use Rattle.free_scan.specs.steps.RowsLeft.{rows_left}
+use Rattle.free_scan.specs.steps.Scanning.{State, IsWithin, begun, finished, taken_all}
 use Rattle.free_scan.proofs.FirstsLaws.{first_of_all, merged_firsts}
 use Rattle.free_scan.proofs.ScanLaws.{within_finished}
 use Rattle.free_scan.proofs.RowsLaws.{joined, items_left, statements_left, firsts_left, same_ranges, rows_of_row, wrongs_of_runs}

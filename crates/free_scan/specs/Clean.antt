@@ -3,7 +3,7 @@ use Rattle.std.specs.Prelude.{ℕ, Bool, true, not, ◌&&◌, nat_le, List, [], 
 use Rattle.std.specs.List.{list_all, list_any, flat_map}
 use Rattle.std.specs.Str.{bytes_eq}
 use Rattle.ftn_base.specs.Keywords.{is_keyword, is_intrinsic}
-use Rattle.ftn_base.specs.Limits.{name_limit}
+use Rattle.ftn_base.specs.Limits.{greatest_integer, name_limit}
 use Rattle.ftn_base.specs.Names.{is_name}
 use Rattle.ftn_base.specs.declared.name.Edition.TheVariants.{F90}
 use Rattle.free_scan.specs.declared.first_form.program.Operand.{Operand}
@@ -28,12 +28,12 @@ statement_names (statements.Print items) = flat_map sum_names items
 
 abbrev pub operand_fits : Operand → Bool
 operand_fits (operands.Variable name) = true
-operand_fits (operands.Whole n) = nat_le n 2147483647
+operand_fits (operands.Whole n) = nat_le n greatest_integer
 
 abbrev pub sum_fits : Sum → Bool
 sum_fits sum = operand_fits sum.first && list_all (λ term. operand_fits term.operand) sum.rest
 
--- whole numbers are at most 2147483647, and a list has an item
+-- whole numbers are at most the greatest integer, and a list has an item
 abbrev pub statement_fits : Statement → Bool
 statement_fits (statements.Assign target value) = sum_fits value
 statement_fits (statements.Print items) = is_some_row items && list_all sum_fits items

@@ -3,15 +3,6 @@ pub mod Pieces
 pub mod Tokens
 pub mod Spelling
 pub mod Clean
-pub mod Reading
-pub mod Fresh
 pub mod FirstForm
-pub mod PlainWalk
-pub mod Onward
-pub mod Firsts
-pub mod Scanning
-pub mod LinesLeft
-pub mod RowsLeft
 pub mod ScanFaults
-pub mod Runs
-pub mod PlainText
+pub mod steps

@@ -2,7 +2,7 @@
 use Rattle.std.specs.Prelude.{ℕ, ◌+◌, Bool, ◌&&◌, ◌||◌, ◌==◌, nat_le, List, [], ◌∷◌, length, if◌then◌else◌}
 use Rattle.std.specs.List.{list_all, ends_with, onto_first}
 use Rattle.ftn_base.specs.Letters.{is_within}
-use Rattle.ftn_tree.specs.Breaks.{line_limit}
+use Rattle.ftn_base.specs.Limits.{line_limit}
 use Rattle.ftn_tree.specs.Lines.{is_line_feed}
 
 abbrev pub lines : List ℕ → List (List ℕ)

@@ -5,9 +5,13 @@ use Rattle.std.specs.Str.{bytes_eq}
 use Rattle.ftn_base.specs.declared.entity.EntityId.{EntityId}
 use Rattle.ftn_base.specs.declared.uses.Access.{Access}
 
--- a name, and an entity that it may denote
+-- a name, and what it may denote
+abbrev pub PairOf : Type 0 → Type 0
+PairOf A = List ℕ × A
+
+-- the same with the number of an entity
 abbrev pub Pair : Type 0
-Pair = List ℕ × EntityId
+Pair = PairOf EntityId
 
 abbrev pub is_among : List (List ℕ) → List ℕ → Bool
 is_among names name = list_any (bytes_eq name) names
@@ -16,11 +20,11 @@ is_among names name = list_any (bytes_eq name) names
 abbrev pub is_public : Bool → (List ℕ → Bool) → (List ℕ → Bool) → List ℕ → Bool
 is_public default_public public private name = not (private name) && (default_public || public name)
 
-abbrev pub public_part : Bool → (List ℕ → Bool) → (List ℕ → Bool) → List Pair → List Pair
+abbrev pub public_part : {A : Type 0} → Bool → (List ℕ → Bool) → (List ℕ → Bool) → List (PairOf A) → List (PairOf A)
 public_part default_public public private pairs = filter (λ pair. is_public default_public public private pair.0) pairs
 
 -- the public part of what is its own, and then of what it uses
-abbrev pub exported : List Pair → List Pair → Access → List Pair
+abbrev pub exported : {A : Type 0} → List (PairOf A) → List (PairOf A) → Access → List (PairOf A)
 exported own used access =
     public_part access.default_public (is_among access.public) (is_among access.private) own
     ++ public_part access.default_public (is_among access.public) (is_among access.private) used

@@ -37,6 +37,10 @@ most_constructs = 100
 abbrev pub most_files : ℕ
 most_files = 4096
 
+-- how many bytes the name of a file may have
+abbrev pub most_file_name_bytes : ℕ
+most_file_name_bytes = 255
+
 -- how many bytes a file may have
 abbrev pub most_file_bytes : ℕ
 most_file_bytes = 4194304

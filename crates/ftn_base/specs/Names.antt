@@ -3,6 +3,7 @@ use Rattle.std.specs.Prelude.{ℕ, Bool, false, not, ◌&&◌, ◌==◌, nat_lt,
 use Rattle.std.specs.List.{list_all}
 use Rattle.std.specs.Str.{bytes_eq}
 use Rattle.ftn_base.specs.Letters.{folded, is_within, is_letter, is_name_byte}
+use Rattle.ftn_base.specs.Limits.{most_file_name_bytes}
 
 abbrev pub are_name_bytes : List ℕ → Bool
 are_name_bytes bytes = list_all is_name_byte bytes
@@ -30,4 +31,4 @@ are_file_bytes bytes = list_all is_file_byte bytes
 
 -- 1 to 255 such bytes
 abbrev pub is_file_name : List ℕ → Bool
-is_file_name bytes = nat_le 1 (length bytes) && nat_le (length bytes) 255 && are_file_bytes bytes
+is_file_name bytes = nat_le 1 (length bytes) && nat_le (length bytes) most_file_name_bytes && are_file_bytes bytes

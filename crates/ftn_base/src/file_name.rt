@@ -10,6 +10,7 @@ ghost use Rattle.std.proofs.Common.{rules};
 ghost use Rattle.ftn_base.specs.Names as spec;
 ghost use Rattle.ftn_base.specs.Files as files;
 
+use crate::limits::MOST_FILE_NAME_BYTES;
 use crate::memory::NoMemory;
 use crate::name::NameFault;
 use std::alloc::Global;
@@ -49,7 +50,7 @@ fn are_file_bytes(bytes: &[u8]) -> bool
 fn is_file_name(bytes: &[u8]) -> bool
     ensures { result ≡ spec.is_file_name bytes.now }
 {
-    1 <= bytes.len() && bytes.len() <= 255 && are_file_bytes(bytes)
+    1 <= bytes.len() && bytes.len() <= MOST_FILE_NAME_BYTES && are_file_bytes(bytes)
 }
 
 impl FileName {

@@ -40,8 +40,8 @@ pub use implicit::Twice;
 pub use keywords::{is_intrinsic, is_keyword};
 pub use letters::{fold_byte, folded, is_blank, is_digit, is_letter, is_name_byte};
 pub use limits::{
-    GREATEST_INTEGER, LINE_LIMIT, MOST_CONSTRUCTS, MOST_FILE_BYTES, MOST_FILES,
-    MOST_FIRST_FORM_BYTES, MOST_PARENTHESES, MOST_PROJECT_BYTES, MOST_UNITS_OF_ALL,
+    GREATEST_INTEGER, LINE_LIMIT, Limit, MOST_CONSTRUCTS, MOST_FILE_BYTES, MOST_FILE_NAME_BYTES,
+    MOST_FILES, MOST_FIRST_FORM_BYTES, MOST_PARENTHESES, MOST_PROJECT_BYTES, MOST_UNITS_OF_ALL,
     MOST_UNITS_OF_ONE, continuation_limit, name_limit,
 };
 pub use memory::NoMemory;

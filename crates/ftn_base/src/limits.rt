@@ -20,6 +20,9 @@ pub const MOST_CONSTRUCTS: usize = 100;
 /// How many files a project may have.
 pub const MOST_FILES: u32 = 4096;
 
+/// How many bytes the name of a file may have.
+pub const MOST_FILE_NAME_BYTES: usize = 255;
+
 /// How many bytes a file may have.
 pub const MOST_FILE_BYTES: u32 = 4_194_304;
 
@@ -34,6 +37,17 @@ pub const MOST_UNITS_OF_ONE: u32 = 1_048_576;
 
 /// How many storage units all variables and results may have.
 pub const MOST_UNITS_OF_ALL: u32 = 16_777_216;
+
+/// A limit that a project passes.
+#[derive(Clone, Copy)]
+pub enum Limit {
+    /// It has more than `MOST_FILES` files.
+    Files,
+    /// One of its files has more than `MOST_FILE_BYTES` bytes.
+    File,
+    /// Its files up to one of them have more than `MOST_PROJECT_BYTES` bytes.
+    Project,
+}
 
 /// How many bytes a name of the edition may have (3.2.1).
 pub fn name_limit(edition: Edition) -> usize

@@ -1,4 +1,7 @@
 //! `ftn_tool`: refactorings of projects of Fortran 90 files, each with a proof that every result stays.
+//!
+//! The program hands its words and the devices of the system to `ftn_tool::tool`, prints what `--help` and `--version` want and, on
+//! standard error, hints and the store's own messages; its exit code is the status. Nothing is said of it beyond `tool`'s clauses.
 #![tactic(auto)]
 
 mod arguments;

@@ -4,9 +4,12 @@ use Rattle.std.specs.Prelude.{◌⊎◌, IfSome, unwrap_or}
 use Rattle.std.specs.Option.{option_map}
 use Rattle.std.proofs.lemmas.List.{append-nil}
 use Rattle.ftn_base.specs.Files.{File, IsInOrder, project, with_file}
+use Rattle.ftn_base.specs.declared.limits.Limit.{Limit}
+use Rattle.ftn_base.specs.declared.name.Edition.TheVariants.{F90}
 use Rattle.ftn_base.specs.declared.status.Status.{Status}
 use Rattle.ftn_base.specs.declared.status.Status.TheVariants as status
 use Rattle.free_scan.specs.Tokens.{tokens_of}
+use Rattle.ftn_tree.specs.ProjectLimits.{limit_of}
 use Rattle.ftn_tree.specs.declared.token.Token.{Token}
 use Rattle.rename_ref.specs.Conditions.{judged}
 use Rattle.rename_ref.specs.Keeping.{RenameKeeps}
@@ -20,9 +23,7 @@ use Rattle.ftn_tool.proofs.Sizes.{same_limit, whole}
 use Rattle.ftn_tool.proofs.Writing.{rose_since}
 use Rattle.ftn_tool.specs.declared.reply.Reply.{Reply}
 use Rattle.ftn_tool.specs.Answers.{Answered, Applies, Forced, HasRisen, IsAccepted, KeepsFiles, Says, Seen, see}
-use Rattle.ftn_tool.specs.declared.limit.Limit.{Limit}
-use Rattle.ftn_tool.specs.Limits.{limit_of}
-use Rattle.ftn_tool.specs.Projects.{front_of}
+use Rattle.ftn_tool.specs.steps.Fronts.{front_of}
 use Rattle.ftn_tool.specs.Replies.{Carries, CarriesPut, IsDue, Put, reply_of}
 use Rattle.ftn_tool.specs.Verdicts.{Verdict, broken, judgement, limited, not_built, Gives, IsVerdict, applying_line, judgement_status, limit_line, status_of, store_fault_line}
 
@@ -30,8 +31,8 @@ use Rattle.ftn_tool.specs.Verdicts.{Verdict, broken, judgement, limited, not_bui
 
 pub whole_verdict : (order : Rename) (files : List File) (verdict : Verdict) → Gives order (map front_of files) verdict → Gives order files verdict
 whole_verdict order files (limited which) gives = sym (same_limit files) ∙ gives
-whole_verdict order files (broken name text kind at) gives =
-    subst (λ (fs : List File). Gives order fs (broken name text kind at)) (whole files (sym (same_limit files) ∙ gives.0)) gives
+whole_verdict order files (broken name text kind bytes) gives =
+    subst (λ (fs : List File). Gives order fs (broken name text kind bytes)) (whole files (sym (same_limit files) ∙ gives.0)) gives
 whole_verdict order files not_built gives =
     subst (λ (fs : List File). Gives order fs not_built) (whole files (sym (same_limit files) ∙ gives.0.0)) gives
 whole_verdict order files (judgement name text tokens judged_so) gives =
@@ -51,19 +52,19 @@ limit_or_none limit which some none = absurd cc
 
 same_status : (order : Rename) (files : List File) (verdict other : Verdict) → Gives order files verdict → Gives order files other → status_of verdict ≡ status_of other
 same_status order files (limited which) (limited some) gives also = refl
-same_status order files (limited which) (broken name text kind at) gives also = limit_or_none (limit_of files) which gives also.0
+same_status order files (limited which) (broken name text kind bytes) gives also = limit_or_none (limit_of files) which gives also.0
 same_status order files (limited which) not_built gives also = limit_or_none (limit_of files) which gives also.0.0
 same_status order files (limited which) (judgement name text tokens judged_so) gives also = limit_or_none (limit_of files) which gives also.0.0
 same_status order files (broken n t k p) (limited some) gives also = limit_or_none (limit_of files) some also gives.0
-same_status order files (broken n t k p) (broken name text kind at) gives also = refl
+same_status order files (broken n t k p) (broken name text kind bytes) gives also = refl
 same_status order files (broken n t k p) not_built gives also = refl
-same_status order files (broken n t k p) (judgement name text tokens judged_so) gives also = absurd (not_all_read files n t k p gives.1 also.0.1)
+same_status order files (broken n t k p) (judgement name text tokens judged_so) gives also = absurd (not_all_read F90 files n t k p gives.1 also.0.1)
 same_status order files not_built (limited some) gives also = limit_or_none (limit_of files) some also gives.0.0
-same_status order files not_built (broken name text kind at) gives also = refl
+same_status order files not_built (broken name text kind bytes) gives also = refl
 same_status order files not_built not_built gives also = refl
 same_status order files not_built (judgement name text tokens judged_so) gives also = absurd (gives.1 name text also.1.0 also.1.1.0)
 same_status order files (judgement n t some one) (limited which) gives also = limit_or_none (limit_of files) which also gives.0.0
-same_status order files (judgement n t some one) (broken name text kind at) gives also = absurd (not_all_read files name text kind at also.1 gives.0.1)
+same_status order files (judgement n t some one) (broken name text kind bytes) gives also = absurd (not_all_read F90 files name text kind bytes also.1 gives.0.1)
 same_status order files (judgement n t some one) not_built gives also = absurd (also.1 n t gives.1.0 gives.1.1.0)
 same_status order files (judgement n t some one) (judgement name text tokens other) gives also =
     let parts = same_pair n t name text (sym gives.1.1.0.only ∙ also.1.1.0.only) in
@@ -119,8 +120,8 @@ module _ (law : RenameKeeps) (order : Rename) (files : List File) (seen : Seen) 
   answered : (verdict : Verdict) (answer : Status) → IsVerdict order files verdict → Carries (reply_of verdict) seen answer → Answered order files seen answer
   answered (limited which) answer gives carried =
       subst (λ (a : Status). Answered order files seen a) (sym carried.answer_is) (record { which = which; verdict = gives; said = carried.said })
-  answered (broken name text kind at) answer gives carried =
-      subst (λ (a : Status). Answered order files seen a) (sym carried.answer_is) (inl (record { name = name; text = text; kind = kind; at = at; verdict = gives; said = carried.said }))
+  answered (broken name text kind bytes) answer gives carried =
+      subst (λ (a : Status). Answered order files seen a) (sym carried.answer_is) (inl (record { name = name; text = text; kind = kind; bytes = bytes; verdict = gives; said = carried.said }))
   answered not_built answer gives carried = subst (λ (a : Status). Answered order files seen a) (sym carried.answer_is) (inr (gives, carried.said))
   answered (judgement name text tokens (Refuse cond at)) answer gives carried =
       subst (λ (a : Status). Answered order files seen a) (sym carried.answer_is) (record { name = name; text = text; tokens = tokens; cond = cond; at = at; verdict = gives; said = carried.said })
@@ -144,7 +145,7 @@ module _ (seen : Seen) where
   -- the answer is the verdict's, or one that a device forced
   due_or_forced : (verdict : Verdict) (answer : Status) → Carries (reply_of verdict) seen answer → (answer ≡ status_of verdict) ⊎ Forced seen answer
   due_or_forced (limited which) answer carried = inl carried.answer_is
-  due_or_forced (broken name text kind at) answer carried = inl carried.answer_is
+  due_or_forced (broken name text kind bytes) answer carried = inl carried.answer_is
   due_or_forced not_built answer carried = inl carried.answer_is
   due_or_forced (judgement name text tokens (Refuse cond at)) answer carried = inl carried.answer_is
   due_or_forced (judgement name text tokens (Accept new_text)) answer carried = put_due applying_line name new_text answer carried
@@ -165,7 +166,7 @@ module _ (seen : Seen) where
 
   kept : (verdict : Verdict) (answer : Status) → Carries (reply_of verdict) seen answer → answer ≢ status.Done → answer ≢ status.StoreFault → KeepsFiles seen
   kept (limited which) answer carried other also = carried.files
-  kept (broken name text kind at) answer carried other also = carried.files
+  kept (broken name text kind bytes) answer carried other also = carried.files
   kept not_built answer carried other also = carried.files
   kept (judgement name text tokens (Refuse cond at)) answer carried other also = carried.files
   kept (judgement name text tokens (Accept new_text)) answer carried other also = put_kept applying_line name new_text answer carried other also
@@ -173,7 +174,7 @@ module _ (seen : Seen) where
   -- a fault is forced
   forced_store : (verdict : Verdict) (answer : Status) → (answer ≡ status_of verdict) ⊎ Forced seen answer → answer ≡ status.StoreFault → HasRisen seen.store
   forced_store (limited which) answer (inl is) fault = absurd cc
-  forced_store (broken name text kind at) answer (inl is) fault = absurd cc
+  forced_store (broken name text kind bytes) answer (inl is) fault = absurd cc
   forced_store not_built answer (inl is) fault = absurd cc
   forced_store (judgement name text tokens (Refuse cond at)) answer (inl is) fault = absurd cc
   forced_store (judgement name text tokens (Accept new_text)) answer (inl is) fault = absurd cc
@@ -181,7 +182,7 @@ module _ (seen : Seen) where
 
   forced_sink : (verdict : Verdict) (answer : Status) → (answer ≡ status_of verdict) ⊎ Forced seen answer → answer ≡ status.OutputFault → HasRisen seen.sink
   forced_sink (limited which) answer (inl is) fault = absurd cc
-  forced_sink (broken name text kind at) answer (inl is) fault = absurd cc
+  forced_sink (broken name text kind bytes) answer (inl is) fault = absurd cc
   forced_sink not_built answer (inl is) fault = absurd cc
   forced_sink (judgement name text tokens (Refuse cond at)) answer (inl is) fault = absurd cc
   forced_sink (judgement name text tokens (Accept new_text)) answer (inl is) fault = absurd cc

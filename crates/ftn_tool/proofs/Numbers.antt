@@ -2,7 +2,7 @@
 use Rattle.std.proofs.Common.{◌≡◌, ℕ, ◌+◌, ◌*◌, ◌-◌, ◌≤◌, ◌^◌, List, [], ◌∷◌, refl, arith, None}
 use Rattle.std.specs.Prelude.{fold}
 use Rattle.std.proofs.lemmas.Bool.{le-ltb}
-use Rattle.ftn_tool.specs.Reading.{below}
+use Rattle.ftn_tool.specs.steps.Reading.{below}
 
 abbrev pub add_digit : ℕ → ℕ → ℕ
 add_digit n digit = 10 * n + (digit - 48)

@@ -2,7 +2,7 @@
 use Rattle.std.proofs.Common.{◌≡◌, Bool, true, false, List, [], ◌∷◌, refl, arith}
 use Rattle.std.specs.Prelude.{codes}
 use Rattle.ftn_tool.specs.Words.{Word, command_of, is_text, is_file_word, is_count_word, is_plain_word}
-use Rattle.ftn_tool.specs.Reading.{read}
+use Rattle.ftn_tool.specs.steps.Reading.{read}
 
 abbrev Agree : List Word → Type 0
 Agree words = read words ≡ command_of words

@@ -11,12 +11,13 @@ use Rattle.std.proofs.lemmas.Cmp.{nat_list_cmp_total}
 use Rattle.std.specs.declared.cmp.Ordering.{Ordering}
 use Rattle.std.specs.declared.cmp.Ordering.TheVariants.{Less, Equal, Greater}
 use Rattle.ftn_base.specs.Files.{File, IsInOrder, by_name, is_source, names_of, project, text_of}
-use Rattle.ftn_tool.specs.declared.limit.Limit.{Limit}
-use Rattle.ftn_tool.specs.declared.limit.Limit.TheVariants as limits
+use Rattle.ftn_base.specs.Limits.{most_files}
+use Rattle.ftn_base.specs.declared.limits.Limit.{Limit}
+use Rattle.ftn_base.specs.declared.limits.Limit.TheVariants as limits
+use Rattle.ftn_tree.specs.ProjectLimits.{limit_of, past_bytes}
 use Rattle.ftn_tool.specs.declared.project.ProjectFault.{ProjectFault}
 use Rattle.ftn_tool.specs.declared.project.ProjectFault.TheVariants as faults
-use Rattle.ftn_tool.specs.Limits.{limit_of, most_files, past_bytes}
-use Rattle.ftn_tool.specs.Projects.{IsPassed, front, front_of, fronts, source_front, with_name}
+use Rattle.ftn_tool.specs.steps.Fronts.{IsPassed, front, front_of, fronts, source_front, with_name}
 use Rattle.ftn_tool.proofs.Sizes.{few_files, many_files}
 
 -- each of these files is found by its name

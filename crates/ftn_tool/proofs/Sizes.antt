@@ -6,10 +6,11 @@ use Rattle.std.proofs.lemmas.Bool.{le-ltb, lt-ltb, ltb-true, ltb-false}
 use Rattle.std.proofs.lemmas.List.{length-map, length-take, take_all}
 use Rattle.std.proofs.lemmas.List.Elements.{All-nil, All-cons}
 use Rattle.ftn_base.specs.Files.{File}
-use Rattle.ftn_tool.specs.declared.limit.Limit.{Limit}
-use Rattle.ftn_tool.specs.declared.limit.Limit.TheVariants as limits
-use Rattle.ftn_tool.specs.Limits.{IsSmall, limit_of, most_file_bytes, most_files, most_project_bytes, past_bytes}
-use Rattle.ftn_tool.specs.Projects.{front, front_of, size_with}
+use Rattle.ftn_base.specs.Limits.{most_file_bytes, most_files, most_project_bytes}
+use Rattle.ftn_base.specs.declared.limits.Limit.{Limit}
+use Rattle.ftn_base.specs.declared.limits.Limit.TheVariants as limits
+use Rattle.ftn_tree.specs.ProjectLimits.{limit_of, past_bytes}
+use Rattle.ftn_tool.specs.steps.Fronts.{IsSmall, front, front_of, size_with}
 
 -- ---- one file more
 

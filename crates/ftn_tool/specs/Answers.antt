@@ -2,6 +2,8 @@
 use Rattle.std.specs.Prelude.{◌≡◌, ◌≢◌, ◌⊎◌, ℕ, List, [], ◌∷◌, ◌++◌, Option, Some, Result, Ok, Err, IfSome}
 use Rattle.ftn_base.specs.Files.{File, project, with_file}
 use Rattle.ftn_base.specs.declared.fault.FaultKind.{FaultKind}
+use Rattle.ftn_base.specs.declared.limits.Limit.{Limit}
+use Rattle.ftn_base.specs.declared.place.Range.{Range}
 use Rattle.ftn_base.specs.declared.status.Status.{Status}
 use Rattle.ftn_base.specs.declared.status.Status.TheVariants as status
 use Rattle.free_scan.specs.FirstForm.{IsProgramText}
@@ -16,7 +18,6 @@ use Rattle.store_io.specs.Told.{Takes, TakesFront}
 use Rattle.ftn_tool.specs.declared.command.Command.{Command}
 use Rattle.ftn_tool.specs.declared.command.Command.TheVariants.{Apply}
 use Rattle.ftn_tool.specs.declared.command.Order.TheVariants as orders
-use Rattle.ftn_tool.specs.declared.limit.Limit.{Limit}
 use Rattle.ftn_tool.specs.Verdicts.{Verdict, broken, judgement, limited, not_built, IsVerdict, status_of, refused_line, fault_line, limit_line, not_built_line, applying_line, store_fault_line, bad_word_line}
 
 -- a value before a call and after it
@@ -103,14 +104,14 @@ pub record WasRefused (order : Rename) (files : List File) (seen : Seen) : Type 
   pub verdict : IsVerdict order files (judgement name text tokens (Refuse cond at))
   pub said : Says seen (refused_line name text cond at)
 
--- a file has a fault
+-- a file has a fault, told at its first byte
 pub record WasBroken (order : Rename) (files : List File) (seen : Seen) : Type 0 where
   pub name : List ℕ
   pub text : List ℕ
   pub kind : FaultKind
-  pub at : ℕ
-  pub verdict : IsVerdict order files (broken name text kind at)
-  pub said : Says seen (fault_line name text kind at)
+  pub bytes : Range
+  pub verdict : IsVerdict order files (broken name text kind bytes)
+  pub said : Says seen (fault_line name text kind bytes.start)
 
 -- the project passes a limit
 pub record WasLimited (order : Rename) (files : List File) (seen : Seen) : Type 0 where

@@ -1,10 +1,7 @@
 pub mod Words
-pub mod Reading
-pub mod Limits
-pub mod Faults
 pub mod Verdicts
-pub mod Projects
 pub mod Answers
 pub mod Replies
 pub mod Orders
 pub mod Rising
+pub mod steps

@@ -31,7 +31,7 @@ IsDue order files reply = (verdict : Verdict) × (Gives order files verdict × (
 -- what the one file of a project gives where it is read
 abbrev pub GivesForm : Rename → Option File → Verdict → Type 0
 GivesForm order file (limited which) = ⊥
-GivesForm order file (broken name text kind at) = ⊥
+GivesForm order file (broken name text kind bytes) = ⊥
 GivesForm order file not_built = IsNotBuilt file
 GivesForm order file (judgement name text tokens judged_so) = IsJudged order file name text tokens judged_so
 

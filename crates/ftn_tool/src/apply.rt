@@ -6,7 +6,7 @@ ghost use Rattle.ftn_tool.specs.Orders.{rename_in};
 
 use crate::carry::{carry_out, say};
 use crate::command::Order;
-use crate::lines::STORE_FAULT;
+use crate::lines::{STORE_FAULT, limit_line};
 use crate::project::{ProjectFault, project_files};
 use crate::reply::due_reply;
 use ftn_base::Status;
@@ -39,7 +39,7 @@ fn apply_rename<S: Store, O: Sink>(
     rename_keeps();
     let files = match project_files(alloc, store) {
         Ok(files) => files,
-        Err(ProjectFault::Past(limit)) => return say(out, limit.line(), Status::Limit),
+        Err(ProjectFault::Past(limit)) => return say(out, limit_line(limit), Status::Limit),
         Err(ProjectFault::StoreFailed) => return say(out, STORE_FAULT, Status::StoreFault),
         Err(ProjectFault::NoMemory) => return Status::NoMemory,
     };

@@ -5,7 +5,7 @@ ghost use Rattle.std.specs.Fmt.{decimal};
 ghost use Rattle.ftn_base.specs.Places as places;
 ghost use Rattle.ftn_tool.specs.Verdicts as spec;
 
-use ftn_base::{FaultKind, FileName, NoMemory, line_and_column};
+use ftn_base::{FaultKind, FileName, Limit, NoMemory, line_and_column};
 use rename_ref::Cond;
 use std::alloc::Global;
 
@@ -17,6 +17,17 @@ pub const APPLYING: &[u8] = b"applying 1 files\n";
 
 /// What is written where the store failed.
 pub const STORE_FAULT: &[u8] = b"store fault\n";
+
+/// What is written where the project passes a limit.
+pub fn limit_line(which: Limit) -> &'static [u8]
+    ensures { result.now ≡ spec.limit_line which }
+{
+    match which {
+        Limit::Files => b"limit files\n",
+        Limit::File => b"limit file\n",
+        Limit::Project => b"limit project\n",
+    }
+}
 
 /// What is written where words are no command.
 pub fn bad_word(alloc: Global, position: u32) -> Result<Vec<u8>, NoMemory>

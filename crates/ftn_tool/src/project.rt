@@ -3,13 +3,13 @@
 ghost use Rattle.std.specs.List.{filter};
 ghost use Rattle.std.specs.Prelude.{◌≡◌, ◌≤◌, ◌++◌, ◌∷◌, [], List, None, true, length, map, IfErr, IfOk, IfSome, IsErrOf, OnOk};
 ghost use Rattle.ftn_base.specs.Files.{File, IsInOrder, is_source, project};
+ghost use Rattle.ftn_base.specs.Limits.{most_project_bytes};
 ghost use Rattle.store_io.specs.Counts.{Rose};
-ghost use Rattle.ftn_tool.specs.Limits.{limit_of, most_project_bytes, past_bytes};
-ghost use Rattle.ftn_tool.specs.Projects as spec;
+ghost use Rattle.ftn_tree.specs.ProjectLimits.{limit_of, past_bytes};
+ghost use Rattle.ftn_tool.specs.steps.Fronts as spec;
 
-use crate::limit::{Limit, MOST_FILE_BYTES, MOST_FILES, MOST_PROJECT_BYTES};
 use crate::order::put_in_order;
-use ftn_base::{Bytes, FileName};
+use ftn_base::{Bytes, FileName, Limit, MOST_FILE_BYTES, MOST_FILES, MOST_PROJECT_BYTES};
 use std::alloc::Global;
 use store_io::{ListFault, ReadFault, Store};
 
@@ -46,7 +46,7 @@ pub fn project_files<S: Store>(
         Err(ListFault::NoMemory) => return Err(ProjectFault::NoMemory),
     };
     put_in_order(&mut names);
-    if count_sources(&names) > MOST_FILES {
+    if count_sources(&names) > MOST_FILES as usize {
         return Err(ProjectFault::Past(Limit::Files));
     }
     read_files(alloc, store, &names)
@@ -119,7 +119,7 @@ fn size_with(before: usize, text: &[u8]) -> Result<usize, Limit>
         return Err(Limit::File);
     }
     let size = before + text.len();
-    if size > MOST_PROJECT_BYTES {
+    if size > MOST_PROJECT_BYTES as usize {
         return Err(Limit::Project);
     }
     Ok(size)

@@ -1,19 +1,16 @@
 //! What is due for an order over the files of a project.
 
 ghost use Rattle.std.specs.Prelude.{◌≡◌, ◌+◌, ◌<◌, ◌^◌, None, length, IfOk};
-ghost use Rattle.ftn_tool.specs.Limits.{limit_of};
+ghost use Rattle.ftn_tree.specs.ProjectLimits.{limit_of};
 ghost use Rattle.ftn_tool.specs.Replies.{fault_reply, judgement_reply, not_built_reply, IsDue, IsFirstFormReply};
 ghost use Rattle.ftn_tool.specs.Verdicts.{sole};
 
 use crate::checking::first_fault;
 use crate::lines::{APPLYING, NOT_BUILT, refused};
 use free_scan::first_form::read_first_form;
-use ftn_base::{Bytes, FileName, NoMemory, Status};
+use ftn_base::{Bytes, Edition, FileName, MOST_FIRST_FORM_BYTES, NoMemory, Status};
 use rename_ref::{Judgement, Rename, judge};
 use std::alloc::Global;
-
-/// How many bytes the text of a project in first form has at the most.
-pub const TEXT_LIMIT: u32 = 65536;
 
 /// An answer with its line, and the file that is to be put before it stands.
 #[derive(Drop)]
@@ -35,7 +32,7 @@ pub fn due_reply(
     requires { limit_of files.items ≡ None }
     ensures { IfOk result (λ reply. IsDue order.now files.items reply) }
 {
-    if let Some(line) = first_fault(alloc, &files)? {
+    if let Some(line) = first_fault(alloc, &files, Edition::F90)? {
         return Ok(broken(line));
     }
     first_form_reply(alloc, order, sole_file(files))
@@ -63,7 +60,7 @@ fn first_form_reply(
     let Some((name, text)) = file else {
         return not_built(alloc);
     };
-    if text.bytes().len() > TEXT_LIMIT as usize {
+    if text.bytes().len() > MOST_FIRST_FORM_BYTES as usize {
         return not_built(alloc);
     }
     let Some(form) = read_first_form(alloc, text.bytes())? else {

@@ -1,3 +1,15 @@
 pub mod ExpressionLemmas
 pub mod AssignmentLaws
 pub mod OperatorLaws
+pub mod Inverse
+pub mod RowLaws
+pub mod Namings
+pub mod ExpressionNames
+pub mod PartNames
+pub mod DataNames
+pub mod UnitNames
+pub mod StatementNames
+pub mod AroundLemmas
+pub mod UnitNumbers
+pub mod LineLaws
+pub mod PhraseLaws

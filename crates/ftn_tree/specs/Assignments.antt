@@ -1,4 +1,5 @@
--- Which statements are assignments, whatever words they begin with (Fortran 90, 7.5.1): Fortran reserves no words.
+-- Which statements are assignments, whatever words they begin with (Fortran 90, 7.5.1): Fortran reserves no words. That a name, groups in
+-- parentheses and `=` decide it, before any other form is tried, is this project's own rule.
 use Rattle.std.specs.Prelude.{◌≡◌, ◌≤◌, ◌<◌, ℕ, Bool, true, false, ◌&&◌, ◌||◌, nat_lt, if◌then◌else◌, List, [], ◌∷◌, ◌++◌, length, take}
 use Rattle.std.specs.List.{All, filter, flat_map}
 use Rattle.ftn_tree.specs.declared.token.Token.{Token}

@@ -1,7 +1,7 @@
 -- Where a text breaks a rule of source form (Fortran 90, 3.1 to 3.3).
 use Rattle.std.specs.Prelude.{◌≡◌, ℕ, ◌+◌, ◌*◌, ◌-◌, ◌<◌, ◌≤◌, ◌⊎◌, Bool, true, false, ◌==◌, nat_lt, List, [], ◌∷◌, ◌++◌, fold, length, Option, Some, None}
 use Rattle.std.specs.List.{flat_map}
-use Rattle.ftn_base.specs.Limits.{continuation_limit, name_limit}
+use Rattle.ftn_base.specs.Limits.{continuation_limit, greatest_integer, line_limit, name_limit}
 use Rattle.ftn_base.specs.declared.name.Edition.{Edition}
 use Rattle.ftn_base.specs.declared.fault.FaultKind.{FaultKind}
 use Rattle.ftn_base.specs.declared.fault.FaultKind.TheVariants as kinds
@@ -22,14 +22,7 @@ abbrev pub only_if : Bool → Breach → List Breach
 only_if true breach = breach ∷ []
 only_if false breach = []
 
--- 3.3.1: how many bytes a line may have before its end
-abbrev pub line_limit : ℕ
-line_limit = 132
-
--- the greatest whole number (this project's own)
-abbrev pub greatest : ℕ
-greatest = 2147483647
-
+-- 3.3.1
 abbrev pub long_line : Line → List Breach
 long_line line = only_if (nat_lt line_limit (length line.body)) (line.at + line_limit, kinds.LongLine)
 
@@ -64,7 +57,7 @@ piece_breaches edition pieces.Blank bytes (first ∷ spots) = []
 piece_breaches edition pieces.Stray bytes (first ∷ spots) = (first.at, kinds.BadByte) ∷ []
 piece_breaches edition pieces.Unclosed bytes (first ∷ spots) = (first.at, kinds.OpenText) ∷ []
 piece_breaches edition (pieces.Token tokens.Word) bytes (first ∷ spots) = only_if (nat_lt (name_limit edition) (length bytes)) (first.at, kinds.LongName)
-piece_breaches edition (pieces.Token tokens.Whole) bytes (first ∷ spots) = only_if (nat_lt greatest (number_of bytes)) (first.at, kinds.BigNumber)
+piece_breaches edition (pieces.Token tokens.Whole) bytes (first ∷ spots) = only_if (nat_lt greatest_integer (number_of bytes)) (first.at, kinds.BigNumber)
 piece_breaches edition (pieces.Token tokens.RealForm) bytes (first ∷ spots) = []
 piece_breaches edition (pieces.Token tokens.Quoted) bytes (first ∷ spots) = []
 piece_breaches edition (pieces.Token tokens.Dotted) bytes (first ∷ spots) = []

@@ -1,5 +1,5 @@
 -- The statements of a file as its tokens give them, and what is wrong with a file first.
-use Rattle.std.specs.Prelude.{◌≡◌, ◌⊎◌, ◌-◌, ℕ, true, false, List, [], ◌∷◌, ◌++◌, length, take, drop, slice_get, Some}
+use Rattle.std.specs.Prelude.{◌≡◌, ◌⊎◌, ◌+◌, ◌-◌, ℕ, true, false, List, [], ◌∷◌, ◌++◌, length, take, drop, slice_get, Some}
 use Rattle.std.specs.Option.{option_map_or}
 use Rattle.ftn_base.specs.declared.fault.FaultKind.{FaultKind}
 use Rattle.ftn_base.specs.declared.fault.FaultKind.TheVariants as kinds
@@ -94,10 +94,10 @@ pub record IsEndFault (tokens : Tokens) (kind : FaultKind) (bytes : Range) : Typ
 abbrev pub IsTreeFault : Tokens → FaultKind → Range → Type 0
 IsTreeFault tokens kind bytes = IsStatementFault tokens kind bytes ⊎ IsEndFault tokens kind bytes
 
--- the first fault of a text, and the place of its first byte
-abbrev pub IsTextFault : Edition → List ℕ → FaultKind → ℕ → Type 0
-IsTextFault edition text kind at =
-    IsBreak edition text at kind ⊎ ((breaches_of edition text ≡ []) × (bytes : Range) × IsTreeFault (tokens_of text) kind bytes × (at ≡ bytes.start))
+-- the first fault of a text, and where: the bytes of the statement's first token, or the one byte at which the text breaks a rule of source form
+abbrev pub IsTextFault : Edition → List ℕ → FaultKind → Range → Type 0
+IsTextFault edition text kind bytes =
+    ((at : ℕ) × IsBreak edition text at kind × (bytes ≡ record { start = at; end = at + 1 })) ⊎ ((breaches_of edition text ≡ []) × IsTreeFault (tokens_of text) kind bytes)
 
 -- the text has no fault, and this is its tree
 abbrev pub IsTreeOf : Edition → List ℕ → FileTree → Type 0

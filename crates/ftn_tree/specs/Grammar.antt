@@ -1,5 +1,6 @@
 -- The grammar of expressions (Fortran 90, 7.1.1, 6.1.1, 6.2.2, 12.4.1): a tree of a level, and exactly its tokens.
-use Rattle.std.specs.Prelude.{◌≡◌, ◌≤◌, ◌<◌, ℕ, ◌^◌, ℤ, pos, Bool, true, false, Some}
+use Rattle.std.specs.Prelude.{◌≡◌, ◌≤◌, ℕ, ℤ, pos, Bool, true, false, Some}
+use Rattle.ftn_base.specs.Limits.{greatest_integer}
 use Rattle.ftn_tree.specs.declared.expr.Expr.{Expr}
 use Rattle.ftn_tree.specs.declared.token.Token.{Token}
 use Rattle.ftn_tree.specs.declared.lexeme.Lexeme.{Lexeme}
@@ -24,11 +25,11 @@ abbrev pub truth_lexeme : Bool → Lexeme
 truth_lexeme true = lexeme.True
 truth_lexeme false = lexeme.False
 
--- the row of digits means that number (4.3.1.1)
+-- the row of digits means that number (4.3.1.1), which has 32 bits (this project's own)
 pub record IsNumber (here : Token) (value : ℤ) : Type 0 where
   pub digits : lexeme_of here ≡ lexeme.Whole
   pub value_is : value ≡ pos (number_of here.value)
-  pub small : number_of here.value < 2 ^ 31
+  pub small : number_of here.value ≤ greatest_integer
 
 -- the phrase of some level
 abbrev pub some_level : (ℕ → Phrase) → Phrase

@@ -28,9 +28,14 @@ pub mod Marks
 pub mod Regions
 pub mod Nesting
 pub mod NestFaults
+pub mod Around
 pub mod FileFaults
+pub mod RowNames
+pub mod ProjectFaults
+pub mod ProjectLimits
 pub mod ListItems
 pub mod ListRecords
+pub mod Projects
 pub mod Extents
 pub mod Scopes
 pub mod ScopeLetters
@@ -39,4 +44,6 @@ pub mod Exclusions
 pub mod GlobalNames
 pub mod DeclarationFaults
 pub mod DeclaredEntities
-pub mod Projects
+pub mod Meanings
+pub mod Bindings
+pub mod NameFaults

@@ -1,6 +1,7 @@
 -- Why a row of tokens is no statement and no expression of the profile (this project's own).
 use Rattle.std.specs.Prelude.{◌<◌, ℕ, ◌+◌, ◌-◌, Bool, true, false, ◌&&◌, ◌||◌, ◌==◌, nat_lt, List, [], ◌∷◌, length, take, filter, codes}
 use Rattle.std.specs.List.{list_any}
+use Rattle.ftn_base.specs.Limits.{most_parentheses}
 use Rattle.ftn_tree.specs.declared.token.Token.{Token}
 use Rattle.ftn_tree.specs.declared.token.TokenKind.{TokenKind}
 use Rattle.ftn_tree.specs.declared.token.TokenKind.TheVariants as tokens
@@ -22,14 +23,10 @@ is_open here = is_open_at (lexeme_of here)
 abbrev pub is_close : Token → Bool
 is_close here = is_close_at (lexeme_of here)
 
--- how deep parentheses may nest
-abbrev pub deepest : ℕ
-deepest = 200
-
--- some front has more than 200 more ( than )
+-- some front has more than 200 more ( than ), which is this project's limit
 pub record IsDeep (row : List Token) : Type 0 where
   pub front : ℕ
-  pub many : deepest + length (filter is_close (take front row)) < length (filter is_open (take front row))
+  pub many : most_parentheses + length (filter is_close (take front row)) < length (filter is_open (take front row))
 
 abbrev pub is_whole_at : Lexeme → Bool
 is_whole_at lexeme.Whole = true

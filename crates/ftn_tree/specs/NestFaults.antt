@@ -1,6 +1,7 @@
 -- The first fault in the nesting of statements.
-use Rattle.std.specs.Prelude.{◌≡◌, ◌⊎◌, ℕ, ◌+◌, Bool, true, false, ◌&&◌, ◌||◌, nat_le, not, if◌then◌else◌, List, [], ◌∷◌, ◌++◌, length, map, drop, slice_get, Option, Some, None}
+use Rattle.std.specs.Prelude.{◌≡◌, ◌⊎◌, ℕ, Bool, true, false, ◌&&◌, ◌||◌, nat_le, not, if◌then◌else◌, List, [], ◌∷◌, ◌++◌, length, map, slice_get, Option, Some, None}
 use Rattle.std.specs.Str.{bytes_eq}
+use Rattle.ftn_base.specs.Limits.{most_constructs}
 use Rattle.ftn_base.specs.declared.fault.FaultKind.{FaultKind}
 use Rattle.ftn_base.specs.declared.fault.FaultKind.TheVariants.{Misplaced, OutOfProfile, TooDeep}
 use Rattle.ftn_tree.specs.declared.token.Token.{Token}
@@ -14,27 +15,27 @@ use Rattle.ftn_tree.specs.declared.mark.Region.{Region}
 use Rattle.ftn_tree.specs.declared.mark.Region.TheVariants as region
 use Rattle.ftn_tree.specs.Marks.{mark_of, opens_construct, is_implicit, is_characteristic}
 use Rattle.ftn_tree.specs.Regions.{region_of, depth}
-use Rattle.ftn_tree.specs.Nesting.{most_constructs, Nested, Begins}
+use Rattle.ftn_tree.specs.Nesting.{Row, spelled, IsNested, Nested, Begins}
 
 -- ---- what the statements leave open
 
 -- the openings without an ending, the innermost first, each with its number
-abbrev pub unclosed_from : List (ℕ × Title) → ℕ → List Mark → List (ℕ × Title)
-unclosed_from around at [] = around
-unclosed_from around at (mark.Open what ∷ marks) = unclosed_from ((at, what) ∷ around) (at + 1) marks
-unclosed_from around at (mark.PlainEnd ∷ marks) = unclosed_from (drop 1 around) (at + 1) marks
-unclosed_from around at (mark.End by ∷ marks) = unclosed_from (drop 1 around) (at + 1) marks
-unclosed_from around at (m ∷ marks) = unclosed_from around (at + 1) marks
+abbrev pub Path : Type 0
+Path = List (ℕ × Title)
 
-abbrev pub unclosed : List Mark → List (ℕ × Title)
-unclosed marks = unclosed_from [] 0 marks
+abbrev pub titles : Path → List Title
+titles path = map (λ one. one.1) path
 
-abbrev pub path_after : List Mark → List Title
-path_after front = map (λ one. one.1) (unclosed front)
-
-abbrev pub innermost : List (ℕ × Title) → Option ℕ
+abbrev pub innermost : Path → Option ℕ
 innermost [] = None
 innermost (one ∷ around) = Some one.0
+
+-- the statements leave the path open: a row of whole ones, and after each opening, from the outermost on, a row that is whole in it
+abbrev pub LeavesOpen : (ℕ → ℕ → Bool) → Path → List Mark → Type 0
+LeavesOpen same [] front = (row : Row) × IsNested same [] row × (spelled row ≡ front)
+LeavesOpen same (one ∷ around) front =
+    (before : List Mark) × (row : Row) × (front ≡ before ++ mark.Open one.1 ∷ spelled row) × (one.0 ≡ length before)
+    × IsNested same (one.1 ∷ titles around) row × LeavesOpen same around before
 
 -- ---- the fault
 
@@ -58,13 +59,17 @@ pub record IsRefused (same : ℕ → ℕ → Bool) (marks : List Mark) (kind : F
   pub place : at ≡ length front
   pub before : Begins same front
   pub after : Begins same (front ++ refused ∷ []) → ⊥
-  pub kind_is : kind ≡ kind_in (path_after front) refused
+  pub path : Path
+  pub leaves : LeavesOpen same path front
+  pub kind_is : kind ≡ kind_in (titles path) refused
 
 -- they begin a file and are none: the innermost opening has no ending
 pub record IsUnfinished (same : ℕ → ℕ → Bool) (marks : List Mark) (kind : FaultKind) (at : ℕ) : Type 0 where
   pub begins : Begins same marks
   pub unfinished : (units : List UnitTree) → Nested same marks units → ⊥
-  pub place : innermost (unclosed marks) ≡ Some at
+  pub path : Path
+  pub leaves : LeavesOpen same path marks
+  pub place : innermost path ≡ Some at
   pub kind_is : kind ≡ Misplaced
 
 -- the first fault in nesting, by its kind and the number of the statement

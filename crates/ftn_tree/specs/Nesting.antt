@@ -1,5 +1,6 @@
 -- How statements nest (Fortran 90, 2.3.1, 8.1, 11, 12.3.2.1, 12.5.2).
 use Rattle.std.specs.Prelude.{◌≡◌, ℕ, ◌+◌, Bool, true, false, not, nat_le, if◌then◌else◌, List, [], ◌∷◌, ◌++◌, length}
+use Rattle.ftn_base.specs.Limits.{most_constructs}
 use Rattle.ftn_tree.specs.declared.parts.EndWord.TheVariants as word
 use Rattle.ftn_tree.specs.declared.mark.Title.{Title}
 use Rattle.ftn_tree.specs.declared.mark.Mark.{Mark}
@@ -38,11 +39,8 @@ may_stand same path mark.PlainEnd = false
 may_stand same path (mark.End by) = false
 may_stand same path _ = true
 
--- at most 100 constructs are open, which is this project's limit
-abbrev pub most_constructs : ℕ
-most_constructs = 100
-
--- each statement of the row may stand where it does, and what is opened is in order and ends as it was opened
+-- each statement of the row may stand where it does, and what is opened is in order and ends as it was opened. At most 100 constructs are
+-- open, which is this project's limit
 abbrev pub IsNested : (ℕ → ℕ → Bool) → List Title → Row → Type 0
 IsNested same path none = Unit {0}
 IsNested same path (stands m rest) = (may_stand same path m ≡ true) × IsNested same path rest

@@ -217,7 +217,7 @@ abbrev pub in_groups : List CommonGroup → List Mention
 in_groups groups = flat_map in_group groups
 
 abbrev pub in_designator : Role → Designator → List Mention
-in_designator wanted d = mention d.name wanted ∷ mentions_in_args d.subscripts
+in_designator wanted d = mention_with d.name wanted (where_written role.Parenthesised d.subscripts) ∷ mentions_in_args d.subscripts
 
 abbrev pub in_designators : Role → List Designator → List Mention
 in_designators wanted designators = flat_map (in_designator wanted) designators

@@ -79,7 +79,8 @@ ends_plainly region.ExternalProcedure = true
 ends_plainly region.Body = true
 ends_plainly _ = false
 
--- the statement ends what was opened so, in that region
+-- the statement ends what was opened so, in that region. This project's own: END INTERFACE may carry the name of its block, which
+-- Fortran 90 doesn't have (12.3.2.1), and END DO may leave the name of its construct out (8.1.4.1)
 abbrev pub ends : (ℕ → ℕ → Bool) → Region → Title → Mark → Bool
 ends same within what mark.PlainEnd = ends_plainly within
 ends same within what (mark.End by) = same_word by.word what.word && fits_name same by.name what.name

@@ -14,7 +14,7 @@ use Rattle.ftn_tree.specs.declared.parts.LengthSelector.TheVariants as selector
 use Rattle.ftn_tree.specs.declared.parts.CharLength.{CharLength}
 use Rattle.ftn_tree.specs.declared.parts.CharLength.TheVariants as star
 use Rattle.ftn_tree.specs.declared.parts.LengthValue.{LengthValue}
-use Rattle.ftn_tree.specs.declared.parts.LengthValue.TheVariants as length
+use Rattle.ftn_tree.specs.declared.parts.LengthValue.TheVariants as lengths
 use Rattle.ftn_tree.specs.declared.parts.BoundPair.{BoundPair}
 use Rattle.ftn_tree.specs.declared.parts.Attribute.{Attribute}
 use Rattle.ftn_tree.specs.declared.parts.AttributeKind.{AttributeKind}
@@ -63,8 +63,8 @@ of_own_bounds None = []
 of_own_bounds (Some pairs) = of_bounds pairs
 
 abbrev pub of_length : LengthValue → List Placed
-of_length length.Assumed = []
-of_length (length.Given e) = placed want.Length e ∷ []
+of_length lengths.Assumed = []
+of_length (lengths.Given e) = placed want.Length e ∷ []
 
 abbrev pub of_star : CharLength → List Placed
 of_star (star.Whole token number) = []

@@ -1,6 +1,21 @@
 //! Tokens, trees and tables of Fortran 90 source text, and the definitions that readers of it meet.
+//!
+//! Its own calls say what a token is in the grammar, what a statement is to nesting, and give the names of a statement with what is said
+//! of them (`Form::push_mentions`) and its expressions with what their places want (`Form::push_expressions`). Two laws tie trees to
+//! tokens: `operators_are_those_of_tokens` and `names_are_those_of_tokens`.
+//!
+//! All of its specs are to be trusted, by whoever cites them:
+//! source form (`Lines`, `Code`, `Logical`, `Pieces`, `Reading`, `Breaks`); expressions (`Lexemes`, `Operators`, `Levels`, `Trees`,
+//! `Phrases`, `Grammar`, `Misfits`); statements (`Assignments`, `TypeForms`, `SpecificationForms`, `UnitForms`, `Specifications`,
+//! `ExecutableForms`); nesting (`Marks`, `Regions`, `Nesting`, `NestFaults`); files and projects (`FileFaults`, `ProjectFaults`,
+//! `ProjectLimits`); names and expressions of statements (`Roles`, `Expressions`, `PartMentions`, `Mentions`, `RowNames`, `Wants`);
+//! scoping units and declarations (`Extents`, `Scopes`, `ScopeLetters`, `Sayings`, `Exclusions`, `GlobalNames`, `DeclarationFaults`,
+//! `DeclaredEntities`); kinds of entities (`Kinds`); records and items of lists (`ListRecords`, `ListItems`).
+//!
+//! That a text has a tree or a fault is shown by the crates that read. What names denote isn't said yet.
 #![tactic(auto)]
 
+mod around;
 mod expr;
 mod form;
 mod laws;
@@ -20,7 +35,7 @@ mod wants;
 
 pub use expr::{Expr, Part};
 pub use form::Form;
-pub use laws::operators_are_those_of_tokens;
+pub use laws::{names_are_those_of_tokens, operators_are_those_of_tokens};
 pub use lexeme::Lexeme;
 pub use mark::{Content, Mark, Region, Section, Title};
 pub use mention::{Mention, Role};
@@ -34,7 +49,8 @@ pub use parts::{
 };
 pub use piece::{PieceKind, Spot};
 pub use table::{
-    Bound, Entity, EntityKind, Extent, Occurrence, Scope, ScopeKind, StatementId, TableFault, Tables,
+    Bound, Entity, EntityKind, Extent, Occurrence, Scope, ScopeKind, StatementId, TableFault,
+    Tables,
 };
 pub use token::{Token, TokenKind, Tokens};
 pub use unit::{Arm, Block, FileTree, Statement, Unit};

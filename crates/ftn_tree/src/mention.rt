@@ -74,7 +74,8 @@ pub enum Role {
     Specific,
     /// After CALL.
     Called,
-    /// In an expression, a target or an input item, with parentheses after it that hold no `:`.
+    /// In an expression, a target or an input item, with parentheses after it that hold no `:`. It is said beside their role of names in
+    /// EQUIVALENCE and DATA too, where subscripts are written.
     Parenthesised,
     /// The same, with parentheses after it that hold a substring range and no subscripts before them (6.1.1).
     Ranged,

@@ -1,6 +1,6 @@
 -- Maps of letters that are written row by row.
-use Rattle.std.proofs.Common.{◌≡◌, ◌≤◌, ◌<◌, ◌-◌, ◌+◌, ℕ, zero, suc, true, false, List, [], ◌∷◌, ◌++◌, map, length, get_or, set, take, refl, sym, ap, ◌∙◌, inl, inr, arith, if◌then◌else◌}
-use Rattle.std.specs.List.{range_with_len}
+use Rattle.std.proofs.Common.{◌≡◌, ◌≤◌, ◌<◌, ◌-◌, ◌+◌, ℕ, zero, suc, Bool, true, false, Option, List, [], ◌∷◌, ◌++◌, map, length, get_or, set, take, refl, sym, ap, ◌∙◌, inl, inr, arith, if◌then◌else◌}
+use Rattle.std.specs.List.{find, range_with_len}
 use Rattle.std.proofs.lemmas.Bool.{cases_eq}
 use Rattle.std.proofs.lemmas.Bool.Decides.{nat_tests}
 use Rattle.std.proofs.lemmas.List.{ext_get_or, get_or-set_same, get_or-set_other, take_all, take_more_set}
@@ -105,3 +105,10 @@ unfolding alphabet
 made_done f entries n many few long made =
     let all : n ≡ 26 = omega arith in
     sym (take_all n entries (omega arith)) ∙ made ∙ ap (λ k. map f (range_with_len 97 k)) all
+
+-- a search through numbers, one after the other
+pub found_next : (test : ℕ → Bool) (found : Option ℕ) (at end : ℕ) → at < end → test at ≡ false → found ≡ find test (range_with_len at (end - at))
+    → found ≡ find test (range_with_len (at + 1) (end - (at + 1)))
+found_next test found at end less fails is = is ∙ ap (λ n. find test (range_with_len at n)) left ∙ rw fails refl where
+  left : end - at ≡ suc (end - (at + 1))
+  left = omega arith

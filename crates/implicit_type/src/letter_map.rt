@@ -1,9 +1,9 @@
 //! The implicit type of each letter in a scoping unit (Fortran 90, 5.3).
 
-ghost use Rattle.std.specs.Prelude.{◌≡◌, ◌≤◌, ◌-◌, IfOk, map, true};
+ghost use Rattle.std.specs.Prelude.{◌≡◌, ◌≤◌, ◌-◌, IfOk, is_some, map, true};
 ghost use Rattle.ftn_base.specs.ImplicitLetters as spec;
 
-use crate::rows::{entry_given, first_given, number_of, put, types_of};
+use crate::rows::{any_given, entry_given, first_given, number_of, put, types_of};
 use ftn_base::{Letter, NoMemory, Twice, Ty};
 use std::alloc::Global;
 use std::marker::Model;
@@ -87,6 +87,13 @@ impl LetterMap {
             entries[number] = entry_given(&self.entries, number, from, to, letter);
         }
         LetterMap { entries }
+    }
+
+    /// Whether a range of the scoping unit gave one of the letters from one to another, by their codes in lower case.
+    pub fn was_given(&self, from: u8, to: u8) -> bool
+        ensures { result ≡ is_some (spec.first_given from to self.now) }
+    {
+        any_given(&self.entries, from, to)
     }
 
     /// The implicit types of the letters from A to Z.

@@ -1,6 +1,6 @@
 //! The rows of a letter map.
 
-ghost use Rattle.std.specs.Prelude.{◌≡◌, ◌≤◌, ◌<◌, ◌-◌, ◌+◌, length, map, true, if◌then◌else◌, IfOk};
+ghost use Rattle.std.specs.Prelude.{◌≡◌, ◌≤◌, ◌<◌, ◌-◌, ◌+◌, length, is_some, map, true, if◌then◌else◌, IfOk};
 ghost use Rattle.ftn_base.specs.ImplicitLetters as spec;
 ghost use Rattle.ftn_base.specs.Letters.{is_within};
 
@@ -67,4 +67,26 @@ pub fn types_of(alloc: Global, entries: &[(Letter, bool)]) -> Result<Vec<Letter>
         types.push(entry.0)?;
     }
     Ok(types)
+}
+
+fn is_given(entries: &[(Letter, bool)], letter: usize) -> bool
+    ensures { result ≡ spec.is_given entries.now letter }
+{
+    match entries.get(letter.saturating_sub(97)) {
+        Some(entry) => entry.1,
+        None => false,
+    }
+}
+
+/// Whether one of the letters from one to another was given.
+pub fn any_given(entries: &[(Letter, bool)], from: u8, to: u8) -> bool
+    ensures { result ≡ is_some (spec.first_given from to entries.now) }
+{
+    let first = from as usize;
+    for letter in first..to as usize + 1 {
+        if is_given(entries, letter) {
+            return true;
+        }
+    }
+    false
 }

@@ -8,7 +8,7 @@ use Rattle.std.proofs.lemmas.List.Sums.{count_by-le-length}
 use Rattle.ftn_tree.specs.declared.token.Token.{Token}
 use Rattle.ftn_tree.specs.Lines.{is_line_feed, line_starts}
 use Rattle.ftn_tree.specs.Reading.{tokens_of}
-use Rattle.lossless_tree.specs.Edges.{end_before, start_of}
+use Rattle.lossless_tree.specs.steps.Edges.{end_before, start_of}
 use Rattle.lossless_tree.specs.Texts.{gap_texts, line_at, token_texts}
 use Rattle.lossless_tree.proofs.LineStarts.{starts_counted, starts_parted}
 use Rattle.lossless_tree.proofs.Turns.{gap_fits, gap_text, token_fits, token_text}

@@ -1,41 +1,24 @@
 -- Which token holds an offset.
 use Rattle.std.proofs.Common.{◌≡◌, ℕ, zero, suc, ◌+◌, ◌≤◌, ◌<◌, ◌^◌, Bool, true, false, ◌&&◌, List, [], ◌∷◌, length, get_or, Option, Some, None, refl, ap, sym, ◌∙◌, arith, if◌then◌else◌}
-use Rattle.std.specs.Prelude.{nat_le, nat_lt, slice_get}
+use Rattle.std.specs.Prelude.{nat_le, slice_get}
 use Rattle.std.specs.Option.{option_map}
 use Rattle.std.specs.List.{prefix_len}
 use Rattle.std.specs.List.Sorted.{IsPartitionedBy}
 use Rattle.std.proofs.lemmas.Bool.Decides.{nat_tests}
 use Rattle.std.proofs.lemmas.List.Sums.{prefix_len_is}
+use Rattle.std.proofs.lemmas.Bool.{le-leb, lt-leb, leb-true, leb-false, lt-ltb, le-ltb}
 use Rattle.ftn_tree.specs.declared.token.Token.{Token}
 use Rattle.ftn_tree.specs.Reading.{tokens_of}
-use Rattle.lossless_tree.specs.Edges.{has_ended, begun_at}
+use Rattle.lossless_tree.specs.steps.Edges.{has_ended, begun_at}
 use Rattle.lossless_tree.specs.Texts.{Rise, first_holding, token_at}
 use Rattle.lossless_tree.proofs.Rising.{tokens_rise}
-
-le_true : (a at : ℕ) → a ≤ at → nat_le a at ≡ true
-le_true a at less = grind (arith, nat_tests)
-
-le_false : (a at : ℕ) → at < a → nat_le a at ≡ false
-le_false a at less = grind (arith, nat_tests)
-
-le_of : (a at : ℕ) → nat_le a at ≡ true → a ≤ at
-le_of a at is = grind (arith, nat_tests)
-
-lt_of : (a at : ℕ) → nat_le a at ≡ false → at < a
-lt_of a at is = grind (arith, nat_tests)
-
-lt_true : (at a : ℕ) → at < a → nat_lt at a ≡ true
-lt_true at a less = grind (arith, nat_tests)
-
-lt_false : (at a : ℕ) → a ≤ at → nat_lt at a ≡ false
-lt_false at a less = grind (arith, nat_tests)
 
 -- ---- what is found
 
 none_later : (at low size : ℕ) (tokens : List Token) → at < low → Rise low tokens size → first_holding at tokens ≡ None
 none_later at low size [] less rise = refl
 none_later at low size (token ∷ tokens) less (first, some, more) =
-    rw (le_false token.range.start at (omega arith)) (ap (option_map suc) (none_later at token.range.end size tokens (omega arith) more))
+    rw (lt-leb token.range.start at (omega arith)) (ap (option_map suc) (none_later at token.range.end size tokens (omega arith) more))
 
 counted_on : (begun : Bool) (n : ℕ) → option_map suc (if begun then Some n else None) ≡ (if begun then Some (suc n) else None)
 counted_on true n = refl
@@ -60,13 +43,13 @@ found at low size (token ∷ tokens) (first, some, more) = by (found at token.ra
       → (ended : Bool) → nat_le token.range.end at ≡ ended
       → first_holding at (token ∷ tokens) ≡ begun_at at (prefix_len (has_ended at) (token ∷ tokens)) (slice_get (token ∷ tokens) (prefix_len (has_ended at) (token ∷ tokens)))
   by later true is =
-      let before : token.range.end ≤ at = le_of token.range.end at is in
+      let before : token.range.end ≤ at = leb-true token.range.end at is in
       let n : ℕ = prefix_len (has_ended at) tokens in
-      rw (is, le_true token.range.start at (omega arith), lt_false at token.range.end before)
+      rw (is, le-leb token.range.start at (omega arith), le-ltb at token.range.end before)
       (ap (option_map suc) later ∙ next_is at n (slice_get tokens n) ∙ ap (λ k. begun_at at k (slice_get (token ∷ tokens) k)) (one_more n))
   by later false is =
-      let inside : at < token.range.end = lt_of token.range.end at is in
-      rw (is, lt_true at token.range.end inside)
+      let inside : at < token.range.end = leb-false token.range.end at is in
+      rw (is, lt-ltb at token.range.end inside)
       (first_is (nat_le token.range.start at) (first_holding at tokens) (none_later at token.range.end size tokens inside more))
 
 -- ---- tokens that end at an offset or before it come first

@@ -1,13 +1,13 @@
 -- The bytes of a row stand in the order of the text.
-use Rattle.std.proofs.Common.{◌≡◌, ℕ, suc, ◌+◌, ◌-◌, ◌≤◌, true, List, [], ◌∷◌, ◌++◌, length, take, drop, Option, None, refl, ◌∙◌, arith, length-drop}
+use Rattle.std.proofs.Common.{◌≡◌, ℕ, ◌+◌, ◌-◌, ◌≤◌, List, [], ◌∷◌, ◌++◌, length, Option, None, ◌∙◌, arith}
 use Rattle.std.specs.Prelude.{◌&&◌, ◌==◌, not, if◌then◌else◌}
-use Rattle.std.specs.List.{ends_with, filter, slice_split, onto_first}
-use Rattle.std.proofs.lemmas.Bool.{cond_both, and_parts}
-use Rattle.std.proofs.lemmas.List.{length-take}
+use Rattle.std.specs.List.{filter, slice_split}
+use Rattle.std.proofs.lemmas.Bool.{cond_both}
 use Rattle.ftn_tree.specs.declared.piece.Spot.{Spot}
-use Rattle.ftn_tree.specs.Code.{before_mark, code_len, code_of, goes_on, is_outside, is_wrong, leads, quote_after, stem_len}
-use Rattle.ftn_tree.specs.Lines.{Line, begins_with, code_lines, indent, is_comment, is_line_feed, lines_of, placed, without_return}
-use Rattle.ftn_tree.specs.Logical.{Carried, Glyph, byte, gap, cut, after_line, glyph, glyphs, joins, is_carried, line_glyphs, open_at, row_from, row_of, said, skipped, stands_alone, text_of, text_glyphs}
+use Rattle.ftn_tree.specs.Code.{goes_on, is_outside, is_wrong, quote_after}
+use Rattle.ftn_tree.specs.Lines.{Line, code_lines, is_comment, is_line_feed, lines_of, placed, without_return}
+use Rattle.ftn_tree.specs.Logical.{Carried, Glyph, byte, gap, cut, after_line, glyph, glyphs, joins, is_carried, line_glyphs, open_at, row_from, row_of, said, skipped, text_of, text_glyphs}
+use Rattle.ftn_tree.proofs.LineLaws.{text_by, shorter, span_of_text, span}
 
 -- the bytes stand one after another, from that offset on and before that one
 abbrev pub RowRises : ℕ → List Glyph → ℕ → Type 0
@@ -39,38 +39,6 @@ glyphs_rise stop within line at (b ∷ bytes) fits =
     row_first at stop within (record { at = at; line = line }) b (glyphs (quote_after within b) line (at + 1) bytes) (omega arith)
     (glyphs_rise stop (quote_after within b) line (at + 1) bytes (omega arith))
 
-begins_some : (b : ℕ) (bytes : List ℕ) → begins_with b bytes ≡ true → 1 ≤ length bytes
-begins_some b [] is = absurd (cc)
-begins_some b (c ∷ bytes) is = omega arith
-
-leads_by : (body : List ℕ) → leads body ≡ true → indent body + 1 ≤ length body
-leads_by body is =
-    let some : 1 ≤ length (drop (indent body) body) = begins_some 38 (drop (indent body) body) is in
-    let left : length (drop (indent body) body) ≡ length body - indent body = length-drop (indent body) body in
-    omega arith
-
-skipped_by : (before : Option Carried) (body : List ℕ) → skipped before body ≤ length body
-skipped_by before body =
-    cond_both (stands_alone before body) _ _ (λ n. n ≤ length body) (λ e. omega arith)
-    (λ e. cond_both (joins before body) _ _ (λ n. n ≤ length body)
-    (λ is. leads_by body (and_parts (is_carried before) (leads body) (and_parts (is_carried before && leads body) (not (stands_alone before body)) is).0).1)
-    (λ f. omega arith))
-
-code_by : (within : Option ℕ) (bytes : List ℕ) → length (code_of within bytes) ≤ length bytes
-code_by within bytes = omega (arith, length-take (code_len within bytes) bytes)
-
-mark_by : (bytes : List ℕ) → length (before_mark bytes) ≤ length bytes
-mark_by bytes = cond_both (goes_on bytes) _ _ (λ made. length made ≤ length bytes) (λ e. omega (arith, length-take (stem_len bytes - 1) bytes)) (λ e. omega arith)
-
--- what a line says stands within it
-text_by : (before : Option Carried) (body : List ℕ) → skipped before body + length (text_of before body) ≤ length body
-text_by before body =
-    let left : length (drop (skipped before body) body) ≡ length body - skipped before body = length-drop (skipped before body) body in
-    let skips : skipped before body ≤ length body = skipped_by before body in
-    let code : length (said before body) ≤ length (drop (skipped before body) body) = code_by (open_at before body) (drop (skipped before body) body) in
-    let text : length (text_of before body) ≤ length (said before body) = mark_by (said before body) in
-    omega arith
-
 line_rises : (stop : ℕ) (before : Option Carried) (line : Line) → line.at + length line.body ≤ stop → RowRises line.at (line_glyphs before line) stop
 line_rises stop before line fits =
     let text : skipped before line.body + length (text_of before line.body) ≤ length line.body = text_by before line.body in
@@ -89,13 +57,6 @@ lines_sooner : (from at stop : ℕ) (lines : List Line) → from ≤ at → Line
 lines_sooner from at stop [] less rises = omega arith
 lines_sooner from at stop (line ∷ lines) less (first, more) = (omega arith, more)
 
-shorter : (body : List ℕ) → length (without_return body) ≤ length body
-shorter body = cond_both (ends_with ◌==◌ body (13 ∷ [])) (take (length body - 1) body) body (λ made. length made ≤ length body) (λ e. omega (arith, length-take (length body - 1) body)) (λ e. omega arith)
-
-abbrev pub span : List (List ℕ) → ℕ
-span [] = 0
-span (piece ∷ pieces) = length piece + 1 + span pieces
-
 placed_rise : (stop number at : ℕ) (piece : List ℕ) (pieces : List (List ℕ)) → at + (length piece + 1 + span pieces) ≤ stop + 1 → LinesRise at (placed number at (piece ∷ pieces)) stop
 placed_rise stop number at piece [] fits = (omega arith, omega arith)
 placed_rise stop number at piece (next ∷ pieces) fits =
@@ -104,16 +65,6 @@ placed_rise stop number at piece (next ∷ pieces) fits =
       lines_sooner (at + length (without_return piece)) (at + length piece + 1) stop (placed (number + 1) (at + length piece + 1) (next ∷ pieces)) (omega arith)
           (placed_rise stop (number + 1) (at + length piece + 1) next pieces (omega arith)),
     )
-
-onto_some : (b : ℕ) (pieces : List (List ℕ)) (n : ℕ) → span pieces ≡ n + 1 → span (onto_first b pieces) ≡ n + 2
-onto_some b [] n is = absurd (omega (arith, is))
-onto_some b (piece ∷ pieces) n is = omega (arith, is)
-
-span_of_text : (text : List ℕ) → span (slice_split is_line_feed text) ≡ length text + 1
-span_of_text [] = refl
-span_of_text (b ∷ rest) =
-    let more : span (slice_split is_line_feed rest) ≡ length rest + 1 = span_of_text rest in
-    cond_both (is_line_feed b) _ _ (λ pieces. span pieces ≡ suc (length rest) + 1) (λ e. omega arith) (λ e. onto_some b (slice_split is_line_feed rest) (length rest) more ∙ omega arith)
 
 all_rise : (pieces : List (List ℕ)) (n : ℕ) → span pieces ≡ n + 1 → LinesRise 0 (placed 1 0 pieces) n
 all_rise [] n is = absurd (omega (arith, is))

@@ -3,7 +3,7 @@ use Rattle.std.proofs.Common.{◌≡◌, ℕ, zero, suc, ◌+◌, ◌≤◌, ◌
 use Rattle.std.specs.Prelude.{⊤, cond, map, nat_le, count_by}
 use Rattle.std.specs.List.{slice_split, onto_first, prefix_len}
 use Rattle.std.specs.List.Sorted.{IsPartitionedBy}
-use Rattle.std.proofs.lemmas.Bool.{cond_both}
+use Rattle.std.proofs.lemmas.Bool.{cond_both, le-leb, lt-leb}
 use Rattle.std.proofs.lemmas.Bool.Decides.{nat_tests}
 use Rattle.std.proofs.lemmas.List.Sums.{prefix_len_is, sum_by-cons}
 use Rattle.ftn_tree.specs.Lines.{Line, is_line_feed, line_starts, placed}
@@ -81,12 +81,6 @@ starts_parted text at =
     rw (starts_are text) (λ i j d order less is.
     le_below (get_or (0 ∷ after 0 text) i d) (get_or (0 ∷ after 0 text) j d) at (rising_pair 0 (0 ∷ after 0 text) (omega arith, after_rises 0 text) i j d order less) is)
 
-le_true : (a at : ℕ) → a ≤ at → nat_le a at ≡ true
-le_true a at less = grind (arith, nat_tests)
-
-le_false : (a at : ℕ) → at < a → nat_le a at ≡ false
-le_false a at less = grind (arith, nat_tests)
-
 count_cons : (b : ℕ) (rest : List ℕ) → count_by is_line_feed (b ∷ rest) ≡ cond (is_line_feed b) 1 0 + count_by is_line_feed rest
 count_cons b rest = sum_by-cons (λ x. cond (is_line_feed x) 1 0) b rest
 
@@ -94,14 +88,14 @@ none_after : (at low : ℕ) (text : List ℕ) → at ≤ low → prefix_len (λ 
 none_after at low [] less = refl
 none_after at low (b ∷ rest) less =
     cond_both (is_line_feed b) _ _ (λ list. prefix_len (λ start. nat_le start at) list ≡ 0)
-    (λ e. rw (le_false (low + 1) at (omega arith)) refl)
+    (λ e. rw (lt-leb (low + 1) at (omega arith)) refl)
     (λ e. none_after at (low + 1) rest (omega arith))
 
 counted_after : (at low k : ℕ) (text : List ℕ) → at ≡ low + k → prefix_len (λ start. nat_le start at) (after low text) ≡ count_by is_line_feed (take k text)
 counted_after at low zero text is = none_after at low text (omega arith)
 counted_after at low (suc k) [] is = refl
 counted_after at low (suc k) (b ∷ rest) is =
-    by (is_line_feed b) (counted_after at (low + 1) k rest (omega arith)) (le_true (low + 1) at (omega arith)) ∙ sym (count_cons b (take k rest))
+    by (is_line_feed b) (counted_after at (low + 1) k rest (omega arith)) (le-leb (low + 1) at (omega arith)) ∙ sym (count_cons b (take k rest))
   where
     by : (feed : Bool) → prefix_len (λ start. nat_le start at) (after (low + 1) rest) ≡ count_by is_line_feed (take k rest) → nat_le (low + 1) at ≡ true
         → prefix_len (λ start. nat_le start at) (cond feed ((low + 1) ∷ after (low + 1) rest) (after (low + 1) rest)) ≡ cond feed 1 0 + count_by is_line_feed (take k rest)
@@ -110,7 +104,7 @@ counted_after at low (suc k) (b ∷ rest) is =
 
 pub starts_counted : (text : List ℕ) (at : ℕ) → prefix_len (λ start. nat_le start at) (line_starts text) ≡ line_at text at
 starts_counted text at =
-    rw (starts_are text, le_true 0 at (omega arith)) (ap (λ n. 1 + n) (counted_after at 0 at text (omega arith)))
+    rw (starts_are text, le-leb 0 at (omega arith)) (ap (λ n. 1 + n) (counted_after at 0 at text (omega arith)))
 
 -- what a search over parted numbers finds is how many come first
 pub prefix_from_point : (p : ℕ → Bool) (xs : List ℕ) (r d : ℕ) → r ≤ length xs

@@ -6,7 +6,7 @@ use Rattle.std.proofs.lemmas.List.{take-append-drop, drop-drop, take_rest, lengt
 use Rattle.ftn_tree.specs.declared.token.Token.{Token}
 use Rattle.ftn_tree.specs.Reading.{tokens_of}
 use Rattle.lossless_tree.specs.Texts.{Rise, gap_texts, gaps_from, in_turn, token_texts}
-use Rattle.lossless_tree.specs.Edges.{end_before, start_of}
+use Rattle.lossless_tree.specs.steps.Edges.{end_before, start_of}
 use Rattle.lossless_tree.proofs.Rising.{tokens_rise}
 
 -- the bytes of a token

@@ -4,7 +4,7 @@ ghost use Rattle.std.specs.Prelude.{◌≡◌, ◌+◌, ◌^◌, ◌<◌, ◌≤
 ghost use Rattle.std.specs.List.Sorted.{IsPartitionedBy};
 ghost use Rattle.std.specs.List.{prefix_len};
 ghost use Rattle.ftn_tree.specs.Reading.{tokens_of};
-ghost use Rattle.lossless_tree.specs.Edges as edges;
+ghost use Rattle.lossless_tree.specs.steps.Edges as edges;
 ghost use Rattle.lossless_tree.specs.Texts.{gap_texts, line_at, token_at, token_texts};
 
 use ftn_tree::{Token, Tokens};

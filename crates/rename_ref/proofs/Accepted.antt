@@ -6,6 +6,8 @@ use Rattle.ftn_base.specs.Keywords.{is_keyword, is_intrinsic}
 use Rattle.ftn_base.specs.Letters.{folded}
 use Rattle.ftn_base.specs.Names.{is_name}
 use Rattle.ftn_base.specs.Places.{offset_of}
+use Rattle.ftn_base.specs.Limits.{name_limit}
+use Rattle.ftn_base.specs.declared.name.Edition.TheVariants.{F90}
 use Rattle.ftn_tree.specs.declared.token.Token.{Token}
 use Rattle.rename_ref.specs.declared.rename.Rename.{Rename}
 use Rattle.rename_ref.specs.declared.judgement.Cond.TheVariants.{BadName, Keyword}
@@ -19,7 +21,7 @@ pub record IsAccepted (order : Rename) (file text : List ℕ) (tokens : List Tok
   pub token : Token
   pub is_chosen : chosen order file text tokens ≡ Some token
   pub is_free : is_keyword token.value ≡ false
-  pub name : is_name 31 order.new ≡ true
+  pub name : is_name (name_limit F90) order.new ≡ true
   pub no_keyword : is_keyword (folded order.new) ≡ false
   pub no_intrinsic : is_intrinsic (folded order.new) ≡ false
   pub not_captured : find (λ other. bytes_eq other.value (folded order.new)) (name_tokens tokens) ≡ None
@@ -94,7 +96,7 @@ accepted order file text tokens new_text e = go (chosen order file text tokens) 
     go : (o : Option Token) → chosen order file text tokens ≡ o → judged_token order.new text tokens o ≡ Accept new_text → IsAccepted order file text tokens new_text
     go None is d = absurd cc
     go (Some token) is d =
-        let a = new_accepted (is_name 31 order.new) (is_keyword (folded order.new) || is_intrinsic (folded order.new)) (judged_names token.value order.new text tokens (find (λ other. bytes_eq other.value (folded order.new)) (name_tokens tokens))) new_text d in
+        let a = new_accepted (is_name (name_limit F90) order.new) (is_keyword (folded order.new) || is_intrinsic (folded order.new)) (judged_names token.value order.new text tokens (find (λ other. bytes_eq other.value (folded order.new)) (name_tokens tokens))) new_text d in
         let w = or_parts (is_keyword (folded order.new)) (is_intrinsic (folded order.new)) a.1 in
         let b = names_accepted token.value order.new text tokens (find (λ other. bytes_eq other.value (folded order.new)) (name_tokens tokens)) new_text a.2 in
         let c = line_accepted (renamed_text token.value order.new tokens text) (on_long_line (renamed_text token.value order.new tokens text) (denoting token.value tokens)) new_text b.1 in

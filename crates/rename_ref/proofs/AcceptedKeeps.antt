@@ -1,13 +1,15 @@
 -- An accepted rename keeps the program: the new text spells the renamed program, which runs alike.
 use Rattle.std.proofs.Common.{◌≡◌, ℕ, zero, suc, ◌+◌, ◌-◌, Bool, true, false, cond, not, ◌&&◌, nat_lt, List, [], ◌∷◌, map, length, find, flat_map, slice_get, option_map, Option, Some, None, unwrap_or, refl, sym, ap, ◌∙◌, codes, bytes_eq, if◌then◌else◌, arith, subst, subst₂}
 use Rattle.std.specs.List.{list_all}
-use Rattle.std.proofs.lemmas.Bool.{and_parts, and_from, ltb-false, or_right, or_parts, not-true}
-use Rattle.std.proofs.lemmas.Bool.Decides.{nat_tests}
-use Rattle.std.proofs.lemmas.List.{length-map}
+use Rattle.std.proofs.lemmas.Bool.{and_parts, ltb-false, not-true}
 use Rattle.std.proofs.lemmas.Slice.Eq.{bytes_eq-Decides}
+use Rattle.std.proofs.lemmas.Option.{same_Some}
 use Rattle.ftn_base.specs.Keywords.{is_keyword, is_intrinsic}
-use Rattle.ftn_base.specs.Letters.{folded, fold_byte, is_letter, is_name_byte, is_upper, is_within}
+use Rattle.ftn_base.specs.Letters.{folded}
 use Rattle.ftn_base.specs.Names.{is_name}
+use Rattle.ftn_base.specs.Limits.{line_limit, name_limit}
+use Rattle.ftn_base.specs.declared.name.Edition.TheVariants.{F90}
+use Rattle.ftn_base.proofs.NameLemmas.{folded_name}
 use Rattle.free_scan.specs.Lines.{lines, is_plain}
 use Rattle.free_scan.specs.Spelling.{Lexeme, lexeme_rows, spell_program}
 use Rattle.free_scan.specs.Clean.{is_clean, is_free_name, is_among, variables, are_distinct, statement_names}
@@ -27,49 +29,15 @@ use Rattle.rename_ref.specs.Names.{name_tokens, denoting}
 use Rattle.rename_ref.specs.Renaming.{renamed, map_program}
 use Rattle.rename_ref.proofs.Accepted.{accepted}
 use Rattle.rename_ref.proofs.Alls.{all_weaken, all_map, find_none, map_agree}
-use Rattle.rename_ref.proofs.Chunks.{Chunk, joined, AreFronts, placed_in, tokens_in, text_cut, placed_of_joined, tokens_of_joined, some_is, is_old, tokens_where, name_tokens_in, denoting_in}
+use Rattle.rename_ref.proofs.Chunks.{Chunk, joined, AreFronts, placed_in, tokens_in, text_cut, placed_of_joined, tokens_of_joined, is_old, tokens_where, name_tokens_in, denoting_in}
 use Rattle.rename_ref.proofs.CleanRenamed.{swapped, swapped_same, swapped_renames, is_other, IsClean, clean_parts, clean_from, clean_map, variables_map, among_passes, free_swapped}
 use Rattle.rename_ref.proofs.FreshNames.{names_other}
-use Rattle.rename_ref.proofs.Fronts.{letter_name_byte}
 use Rattle.rename_ref.proofs.LinesRenamed.{are_fine, chunk_lines, plain_renamed, token_on_line, lines_joined, lines_put, AreShort}
 use Rattle.rename_ref.proofs.PiecesRenamed.{put, fronts_renamed, applied_is}
 use Rattle.rename_ref.proofs.ProgramRenamed.{spelled_renamed, program_agrees}
 use Rattle.rename_ref.proofs.TokensRenamed.{map_lexeme, rows_renamed, placed_is}
 
--- ---- names in lower case
-
--- a letter in lower case is a letter
-fold_letter : (b : ℕ) → is_letter b ≡ true → is_letter (fold_byte b) ≡ true
-fold_letter b h = go (is_upper b) refl
-  where
-    low : is_upper b ≡ true → is_within 97 122 (b + 32) ≡ true
-    low u = grind (arith, nat_tests)
-
-    go : (t : Bool) → is_upper b ≡ t → is_letter (if t then b + 32 else b) ≡ true
-    go true u = or_right (is_upper (b + 32)) (is_within 97 122 (b + 32)) (low u)
-    go false u = h
-
--- a byte of names in lower case is one
-fold_name_byte : (b : ℕ) → is_name_byte b ≡ true → is_name_byte (fold_byte b) ≡ true
-fold_name_byte b h = go (is_letter b) refl
-  where
-    go : (t : Bool) → is_letter b ≡ t → is_name_byte (fold_byte b) ≡ true
-    go true l = letter_name_byte (fold_byte b) (fold_letter b l)
-    go false l =
-        let u : is_upper b ≡ false = (or_parts (is_upper b) (is_within 97 122 b) l).0 in
-        let e : fold_byte b ≡ b = ap (λ (t : Bool). if t then b + 32 else b) u in
-        ap is_name_byte e ∙ h
-
--- a name in lower case is a name
-folded_name : (limit : ℕ) (new : List ℕ) → is_name limit new ≡ true → is_name limit (folded new) ≡ true
-folded_name limit [] name = name
-folded_name limit (b ∷ r) name =
-    let q = and_parts (is_letter b && nat_lt (length r) limit) (list_all is_name_byte r) name in
-    let p = and_parts (is_letter b) (nat_lt (length r) limit) q.0 in
-    let len : nat_lt (length (folded r)) limit ≡ true = ap (λ (n : ℕ). nat_lt n limit) (length-map r fold_byte) ∙ p.1 in
-    and_from (is_letter (fold_byte b) && nat_lt (length (folded r)) limit) (list_all is_name_byte (folded r))
-    (and_from (is_letter (fold_byte b)) (nat_lt (length (folded r)) limit) (fold_letter b p.0) len)
-    (all_map is_name_byte fold_byte r ∙ all_weaken is_name_byte (λ x. is_name_byte (fold_byte x)) fold_name_byte r q.1)
+-- ---- what stays
 
 -- a word of statements is left by a renaming of another word
 keyword_stays : (old new kw : List ℕ) → is_keyword old ≡ false → is_keyword kw ≡ true → renamed old new kw ≡ kw
@@ -92,11 +60,11 @@ pub record IsRenaming (old new : List ℕ) (cs : List Chunk) (p : Program) : Typ
   pub spelled : lexeme_rows (placed_in 0 1 cs) ≡ spell_program p
   pub clean : IsClean p
   pub is_free : is_keyword old ≡ false
-  pub name : is_name 31 new ≡ true
+  pub name : is_name (name_limit F90) new ≡ true
   pub no_keyword : is_keyword (folded new) ≡ false
   pub no_intrinsic : is_intrinsic (folded new) ≡ false
   pub not_captured : find (λ (token : Token). bytes_eq token.value (folded new)) (name_tokens (tokens_in 0 1 cs)) ≡ None
-  pub short : AreShort old new 31 name (chunk_lines cs)
+  pub short : AreShort old new (name_limit F90) name (chunk_lines cs)
 
 module _ (old new : List ℕ) (cs : List Chunk) (p : Program) (a : IsRenaming old new cs p) where
   -- the renaming
@@ -109,11 +77,11 @@ module _ (old new : List ℕ) (cs : List Chunk) (p : Program) (a : IsRenaming ol
 
   -- each stands at the front
   pub new_fronts : AreFronts new_cs
-  new_fronts = fronts_renamed old new 31 a.name cs a.fronts
+  new_fronts = fronts_renamed old new (name_limit F90) a.name cs a.fronts
 
   -- the new name is free
   free_new : is_free_name (folded new) ≡ true
-  free_new = all_three (is_name 31 (folded new)) (is_keyword (folded new)) (is_intrinsic (folded new)) (folded_name 31 new a.name) a.no_keyword a.no_intrinsic
+  free_new = all_three (is_name (name_limit F90) (folded new)) (is_keyword (folded new)) (is_intrinsic (folded new)) (folded_name (name_limit F90) new a.name) a.no_keyword a.no_intrinsic
     where
       all_three : (n k i : Bool) → n ≡ true → k ≡ false → i ≡ false → ((n && not k) && not i) ≡ true
       all_three n k i hn hk hi = rw (hn, hk, hi) refl
@@ -142,7 +110,7 @@ module _ (old new : List ℕ) (cs : List Chunk) (p : Program) (a : IsRenaming ol
   -- The new text spells the renamed program.
   pub new_spells : IsProgramText (joined new_cs) (map_program r p)
   new_spells = record {
-    plain = plain_renamed old new 31 a.name cs (are_fine cs a.fronts) (are_fine new_cs new_fronts) a.plain a.short;
+    plain = plain_renamed old new (name_limit F90) a.name cs (are_fine cs a.fronts) (are_fine new_cs new_fronts) a.plain a.short;
     spelled =
         ap (option_map lexeme_rows) new_placed
         ∙ ap some_rows (rows_renamed old new 0 0 1 1 cs ∙ ap (map (map (map_lexeme r))) a.spelled
@@ -279,11 +247,11 @@ module _ (unique : OneProgram) (runs : RunsKept) (old new : List ℕ) (cs : List
 
   -- the tokens of the old text are those of the old pieces
   old_tokens_are : (ts : List Token) → tokens_of (joined cs) ≡ Some ts → ts ≡ tokens_in 0 1 cs
-  old_tokens_are ts e = some_is ts (tokens_in 0 1 cs) (sym e ∙ tokens_of_joined cs a.fronts)
+  old_tokens_are ts e = same_Some ts (tokens_in 0 1 cs) (sym e ∙ tokens_of_joined cs a.fronts)
 
   -- the tokens of the new text are those of the new pieces
   new_tokens_are : (ts : List Token) → tokens_of after ≡ Some ts → ts ≡ tokens_in 0 1 (map (put old new) cs)
-  new_tokens_are ts e = some_is ts (tokens_in 0 1 (map (put old new) cs)) (sym e ∙ tokens_of_joined (map (put old new) cs) (new_fronts old new cs p a))
+  new_tokens_are ts e = same_Some ts (tokens_in 0 1 (map (put old new) cs)) (sym e ∙ tokens_of_joined (map (put old new) cs) (new_fronts old new cs p a))
 
   -- each name token denotes the partner of what it denoted
   denotes_all : map (λ (t : Token). denoted (map_program f p) (f t.value)) (name_tokens (tokens_in 0 1 cs)) ≡ map (λ (t : Token). option_map (partner f) (denoted p t.value)) (name_tokens (tokens_in 0 1 cs))
@@ -321,25 +289,25 @@ get_map g (y ∷ xs) zero x e = ap (option_map g) e
 get_map g (y ∷ xs) (suc i) x e = get_map g xs i x e
 
 -- where LongLine does not fail, each line with a replaced word is short enough
-lines_short : (old new : List ℕ) (cs : List Chunk) (fs : AreFronts cs) (name : is_name 31 new ≡ true) → is_keyword old ≡ false
-    → find (λ (t : Token). nat_lt 133 (line_length (joined (map (put old new) cs)) t.line)) (denoting old (tokens_in 0 1 cs)) ≡ None → AreShort old new 31 name (chunk_lines cs)
+lines_short : (old new : List ℕ) (cs : List Chunk) (fs : AreFronts cs) (name : is_name (name_limit F90) new ≡ true) → is_keyword old ≡ false
+    → find (λ (t : Token). nat_lt (line_limit + 1) (line_length (joined (map (put old new) cs)) t.line)) (denoting old (tokens_in 0 1 cs)) ≡ None → AreShort old new (name_limit F90) name (chunk_lines cs)
 lines_short old new cs fs name free none i l e h =
-    let q : ℕ → Bool = λ n. not (nat_lt 133 (line_length (joined (map (put old new) cs)) n)) in
-    let d : list_all (λ (t : Token). not (nat_lt 133 (line_length (joined (map (put old new) cs)) t.line))) (tokens_where (is_old old) 0 1 cs) ≡ true =
-    ap (list_all (λ (t : Token). not (nat_lt 133 (line_length (joined (map (put old new) cs)) t.line)))) (sym (denoting_in old free 0 1 cs))
-    ∙ find_none (λ (t : Token). nat_lt 133 (line_length (joined (map (put old new) cs)) t.line)) (denoting old (tokens_in 0 1 cs)) none in
-    let k : not (nat_lt 133 (line_length (joined (map (put old new) cs)) (1 + i))) ≡ true = token_on_line old (λ n. not (nat_lt 133 (line_length (joined (map (put old new) cs)) n))) 0 1 cs d i l e h in
+    let q : ℕ → Bool = λ n. not (nat_lt (line_limit + 1) (line_length (joined (map (put old new) cs)) n)) in
+    let d : list_all (λ (t : Token). not (nat_lt (line_limit + 1) (line_length (joined (map (put old new) cs)) t.line))) (tokens_where (is_old old) 0 1 cs) ≡ true =
+    ap (list_all (λ (t : Token). not (nat_lt (line_limit + 1) (line_length (joined (map (put old new) cs)) t.line)))) (sym (denoting_in old free 0 1 cs))
+    ∙ find_none (λ (t : Token). nat_lt (line_limit + 1) (line_length (joined (map (put old new) cs)) t.line)) (denoting old (tokens_in 0 1 cs)) none in
+    let k : not (nat_lt (line_limit + 1) (line_length (joined (map (put old new) cs)) (1 + i))) ≡ true = token_on_line old (λ n. not (nat_lt (line_limit + 1) (line_length (joined (map (put old new) cs)) n))) 0 1 cs d i l e h in
     let n : (1 + i) - 1 ≡ i = omega arith in
     let w : lines (joined (map (put old new) cs)) ≡ map joined (map (map (put old new)) (chunk_lines cs)) =
-    lines_joined (map (put old new) cs) (are_fine (map (put old new) cs) (fronts_renamed old new 31 name cs fs)) ∙ ap (map joined) (lines_put old new cs) in
+    lines_joined (map (put old new) cs) (are_fine (map (put old new) cs) (fronts_renamed old new (name_limit F90) name cs fs)) ∙ ap (map joined) (lines_put old new cs) in
     let g : slice_get (map joined (map (map (put old new)) (chunk_lines cs))) i ≡ Some (joined (map (put old new) l)) =
     get_map joined (map (map (put old new)) (chunk_lines cs)) i (map (put old new) l) (get_map (map (put old new)) (chunk_lines cs) i l e) in
     let m : line_length (joined (map (put old new) cs)) (1 + i) ≡ length (joined (map (put old new) l)) =
     ap (λ (j : ℕ). length (unwrap_or (slice_get (lines (joined (map (put old new) cs))) j) [])) n
     ∙ ap (λ (ls : List (List ℕ)). length (unwrap_or (slice_get ls i) [])) w
     ∙ ap (λ (o : Option (List ℕ)). length (unwrap_or o [])) g in
-    let z : nat_lt 133 (line_length (joined (map (put old new) cs)) (1 + i)) ≡ false = not-true (nat_lt 133 (line_length (joined (map (put old new) cs)) (1 + i))) k in
-    let y = ltb-false 133 (line_length (joined (map (put old new) cs)) (1 + i)) z in
+    let z : nat_lt (line_limit + 1) (line_length (joined (map (put old new) cs)) (1 + i)) ≡ false = not-true (nat_lt (line_limit + 1) (line_length (joined (map (put old new) cs)) (1 + i))) k in
+    let y = ltb-false (line_limit + 1) (line_length (joined (map (put old new) cs)) (1 + i)) z in
     omega (arith, y, m)
 
 -- ---- the whole
@@ -355,7 +323,7 @@ keeps_cut unique runs order file cs program new_text fs spells e =
     let a : IsRenaming h.token.value order.new cs program = record {
       fronts = fs;
       plain = spells.plain;
-      spelled = some_is (lexeme_rows (placed_in 0 1 cs)) (spell_program program) (ap (option_map lexeme_rows) (sym (placed_of_joined cs fs)) ∙ spells.spelled);
+      spelled = same_Some (lexeme_rows (placed_in 0 1 cs)) (spell_program program) (ap (option_map lexeme_rows) (sym (placed_of_joined cs fs)) ∙ spells.spelled);
       clean = clean_parts program spells.clean;
       is_free = h.is_free;
       name = h.name;

@@ -2,6 +2,8 @@
 use Rattle.std.proofs.Common.{◌≡◌, ℕ, zero, suc, ◌+◌, ◌≤◌, Bool, true, false, cond, not, ◌&&◌, List, [], ◌∷◌, ◌++◌, map, length, take, drop, filter, Option, Some, None, refl, sym, ap, ◌∙◌, arith, bytes_eq, option_map, option_and_then, take-append-drop, length-append}
 use Rattle.std.proofs.lemmas.List.{take_at, drop_at, length-take-le}
 use Rattle.std.proofs.lemmas.Slice.Eq.{bytes_eq-Decides}
+use Rattle.std.proofs.lemmas.Option.{same_Some}
+use Rattle.std.proofs.lemmas.Bool.{and_left}
 use Rattle.ftn_base.specs.Letters.{folded}
 use Rattle.ftn_base.specs.Keywords.{is_keyword}
 use Rattle.free_scan.specs.Pieces.{Piece, front, pieces_within, pieces_of}
@@ -44,10 +46,6 @@ pub map_some : {A B : Type 0} (f : A → B) (o : Option A) (y : B) → option_ma
 map_some f None y e = absurd cc
 map_some f (Some x) y e = (x, refl, cc)
 
--- one value that is there is one value
-pub some_is : {A : Type 0} (x y : A) → Some x ≡ Some y → x ≡ y
-some_is x y e = cc
-
 -- ---- a text and its pieces
 
 -- the piece at the front with its bytes, before the pieces of what is left
@@ -65,7 +63,7 @@ first_piece text piece cs e j fs =
 
 -- a text that has pieces is what they make
 pub pieces_cut : (n : ℕ) (text : List ℕ) (ps : List Piece) → pieces_within n text ≡ Some ps → (cs : List Chunk) × (joined cs ≡ text) × AreFronts cs × (map sized cs ≡ ps)
-pieces_cut n [] ps e = ([], refl, tt, some_is [] ps e)
+pieces_cut n [] ps e = ([], refl, tt, same_Some [] ps e)
 pieces_cut zero (b ∷ rest) ps e = absurd cc
 pieces_cut (suc n) (b ∷ rest) ps e =
     let text : List ℕ = b ∷ rest in
@@ -189,15 +187,10 @@ module _ (p : Token → Bool) (q : Chunk → Bool) (same : (at line : ℕ) (w : 
       let t : Token = as_token (placed_at at line (Mark, w)) kinds.Mark in
       passed_both (p t) (q (Mark, w)) t (token_at at line (Mark, w)) _ _ (only t refl) (none (Mark, w) refl) (filter_tokens (at + length w) line cs)
 
--- what is no word fails a test of words
-no_word : (w b : Bool) → w ≡ false → (w && b) ≡ false
-no_word true b e = absurd cc
-no_word false b e = refl
-
 -- the name tokens of a text are those of its names
 pub name_tokens_in : (at line : ℕ) (cs : List Chunk) → name_tokens (tokens_in at line cs) ≡ tokens_where is_name_chunk at line cs
 name_tokens_in at line cs =
-    filter_tokens is_name_token is_name_chunk (λ from on w. refl) (λ t e. no_word (is_word t.kind) (not (is_keyword t.value)) e) (λ c e. no_word (is_word_piece c.0) (not (is_keyword (folded c.1))) e) at line cs
+    filter_tokens is_name_token is_name_chunk (λ from on w. refl) (λ t e. and_left (is_word t.kind) (not (is_keyword t.value)) e) (λ c e. and_left (is_word_piece c.0) (not (is_keyword (folded c.1))) e) at line cs
 
 -- two filters are one
 filter_filter : {X : Type 0} (p q : X → Bool) (xs : List X) → filter q (filter p xs) ≡ filter (λ x. p x && q x) xs
@@ -220,7 +213,7 @@ pub denoting_in : (old : List ℕ) → is_keyword old ≡ false → (at line : �
 denoting_in old free at line cs =
     filter_filter is_name_token (λ token. bytes_eq token.value old) (tokens_in at line cs)
     ∙ filter_tokens (λ token. is_name_token token && bytes_eq token.value old) (is_old old) same
-    (λ t e. no_word (is_name_token t) (bytes_eq t.value old) (no_word (is_word t.kind) (not (is_keyword t.value)) e)) (λ c e. no_word (is_word_piece c.0) (bytes_eq (folded c.1) old) e) at line cs
+    (λ t e. and_left (is_name_token t) (bytes_eq t.value old) (and_left (is_word t.kind) (not (is_keyword t.value)) e)) (λ c e. and_left (is_word_piece c.0) (bytes_eq (folded c.1) old) e) at line cs
   where
     same : (from on : ℕ) (w : List ℕ) → (is_name_token (token_at from on (Word, w)) && bytes_eq (folded w) old) ≡ is_old old (Word, w)
     same from on w = word_and true (is_keyword (folded w)) (bytes_eq (folded w) old) (λ e. ap is_keyword ((bytes_eq-Decides (folded w) old).0 e) ∙ free)

@@ -5,6 +5,8 @@ use Rattle.std.proofs.lemmas.Bool.{and_parts, and_from}
 use Rattle.ftn_base.specs.Keywords.{is_keyword, is_intrinsic}
 use Rattle.ftn_base.specs.Names.{is_name}
 use Rattle.std.specs.List.{onto_first}
+use Rattle.ftn_base.specs.Limits.{name_limit}
+use Rattle.ftn_base.specs.declared.name.Edition.TheVariants.{F90}
 use Rattle.free_scan.specs.Spelling.{Lexeme, word, whole, mark, lexeme, lexeme_of, lexeme_rows, token_lines, rows_of, is_some_row, commas, spell_declaration, spell_statement, spell_program}
 use Rattle.free_scan.specs.Clean.{is_free_name, variables}
 use Rattle.free_scan.specs.Tokens.{is_line_end, token_kind, as_token, tokens_among}
@@ -119,7 +121,7 @@ names_say q p a =
 
 -- a free name is no word of statements
 free_no_keyword : (name : List ℕ) → is_free_name name ≡ true → is_keyword name ≡ false
-free_no_keyword name h = go (is_name 31 name) (is_keyword name) (is_intrinsic name) h
+free_no_keyword name h = go (is_name (name_limit F90) name) (is_keyword name) (is_intrinsic name) h
   where
     go : (a k i : Bool) → ((a && not k) && not i) ≡ true → k ≡ false
     go a false i h = refl

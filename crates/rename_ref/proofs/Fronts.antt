@@ -6,6 +6,7 @@ use Rattle.std.proofs.lemmas.Bool.Decides.{nat_tests}
 use Rattle.std.proofs.lemmas.List.Sums.{prefix_len-le-length}
 use Rattle.ftn_base.specs.Letters.{is_letter, is_digit, is_name_byte}
 use Rattle.ftn_base.specs.Names.{is_name}
+use Rattle.ftn_base.proofs.NameLemmas.{letter_name_byte}
 use Rattle.ftn_tree.specs.Lines.{is_line_feed}
 use Rattle.ftn_tree.specs.Pieces.{is_pair, is_mark}
 use Rattle.free_scan.specs.Pieces.{Piece, front, mark_at}
@@ -78,10 +79,6 @@ stops_alike p uni (a ∷ u) (b ∷ v) (inr letters) s = uni b a letters.1 letter
 -- a letter is no small number
 letter_bounds : (b : ℕ) → is_letter b ≡ true → ((65 ≤ b) × (b ≤ 90)) ⊎ ((97 ≤ b) × (b ≤ 122))
 letter_bounds b h = grind (arith, nat_tests)
-
--- a letter is a byte of names
-pub letter_name_byte : (b : ℕ) → is_letter b ≡ true → is_name_byte b ≡ true
-letter_name_byte b h = rw h refl
 
 -- all letters are bytes of names
 pub name_byte_uniform : IsUniform is_name_byte

@@ -13,7 +13,7 @@ use Rattle.free_scan.specs.Lines.{lines}
 use Rattle.rename_ref.specs.declared.rename.Rename.{Rename}
 use Rattle.rename_ref.specs.declared.judgement.Cond.TheVariants.{Keyword}
 use Rattle.rename_ref.specs.Conditions.{chosen, judged, judged_token, judged_new, judged_names, judged_line, judged_lines, refused, on_long_line, renamed_text}
-use Rattle.rename_ref.specs.LineLengths.{is_long_in}
+use Rattle.rename_ref.specs.steps.LineLengths.{is_long_in}
 use Rattle.rename_ref.specs.Names.{name_tokens, denoting}
 use Rattle.rename_ref.proofs.LineLengths.{long_by_table}
 

@@ -7,12 +7,12 @@ use Rattle.std.proofs.lemmas.Bool.{cond-true, lt-ltb}
 use Rattle.std.proofs.lemmas.List.{drop_all}
 use Rattle.std.proofs.lemmas.Option.{slice_get-map}
 use Rattle.ftn_tree.specs.declared.token.Token.{Token}
-use Rattle.ftn_tree.specs.Breaks.{line_limit}
 use Rattle.ftn_tree.specs.Lines.{is_line_feed}
 use Rattle.std.specs.List.{onto_first}
+use Rattle.ftn_base.specs.Limits.{line_limit}
 use Rattle.free_scan.specs.Lines.{lines}
 use Rattle.rename_ref.specs.Conditions.{line_length, on_long_line}
-use Rattle.rename_ref.specs.LineLengths.{last_length, is_long_in}
+use Rattle.rename_ref.specs.steps.LineLengths.{last_length, is_long_in}
 
 -- the lengths of the lines, where so many bytes of the first went before
 abbrev pub lengths_after : ℕ → List ℕ → List ℕ

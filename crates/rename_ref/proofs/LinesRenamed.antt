@@ -1,12 +1,15 @@
 -- The lines of a text after a word is replaced by a name.
 use Rattle.std.proofs.Common.{◌≡◌, ℕ, zero, suc, ◌+◌, ◌-◌, ◌≤◌, Bool, true, false, cond, not, ◌&&◌, ◌||◌, ◌==◌, nat_le, nat_lt, ◌⊎◌, inl, inr, List, [], ◌∷◌, ◌++◌, map, length, take, slice_get, Some, None, refl, sym, ap, ◌∙◌, if◌then◌else◌, arith, append-nil, append_assoc, bytes_eq}
 use Rattle.std.specs.List.{list_all, list_any, ends_with}
-use Rattle.std.proofs.lemmas.Bool.{and_parts, and_from, or_from, or_cases, or_parts, eqb-true, le-leb}
+use Rattle.std.proofs.lemmas.Bool.{and_parts, and_from, or_from, or_cases, or_parts, eqb-true, le-leb, not-true}
 use Rattle.std.proofs.lemmas.Bool.Decides.{nat_tests, Decides-eqb}
 use Rattle.std.proofs.lemmas.Slice.Eq.{ends_is}
 use Rattle.ftn_base.specs.Letters.{is_letter, is_digit, is_name_byte, folded}
 use Rattle.ftn_base.specs.Names.{is_name}
+use Rattle.ftn_base.proofs.NameLemmas.{letter_name_byte}
 use Rattle.std.specs.List.{onto_first}
+use Rattle.ftn_base.specs.Limits.{line_limit}
+use Rattle.std.proofs.lemmas.Option.{same_Some}
 use Rattle.ftn_tree.specs.Lines.{is_line_feed}
 use Rattle.free_scan.specs.Lines.{lines, is_plain_byte, is_plain_line, is_plain}
 use Rattle.ftn_tree.specs.Pieces.{is_pair, is_mark}
@@ -16,7 +19,7 @@ use Rattle.free_scan.specs.declared.first_form.token.PieceKind.{PieceKind}
 use Rattle.free_scan.specs.declared.first_form.token.PieceKind.TheVariants.{Blank, Comment, LineEnd, Word, Whole, Mark}
 use Rattle.ftn_tree.specs.declared.token.Token.{Token}
 use Rattle.rename_ref.proofs.Alls.{all_weaken, all_append_parts, all_append}
-use Rattle.rename_ref.proofs.Fronts.{letter_name_byte, in_comment, front_is, FrontIs, line_end, blank, comment, word, whole, one, front_some, mark_is, run_at, no_pair, two_marks, found, same_piece}
+use Rattle.rename_ref.proofs.Fronts.{in_comment, front_is, FrontIs, line_end, blank, comment, word, whole, one, front_some, mark_is, run_at, no_pair, two_marks, found, same_piece}
 use Rattle.rename_ref.proofs.Chunks.{is_word_piece, Chunk, joined, AreFronts, is_old, tokens_where, token_at}
 use Rattle.rename_ref.proofs.PiecesRenamed.{put}
 use Rattle.rename_ref.proofs.TokensRenamed.{map_onto_first}
@@ -135,24 +138,13 @@ onto_more b w (l ∷ ls) = refl
 
 -- bytes that are no LF stand in front of the first line
 lines_inside : (b : ℕ) (w u : List ℕ) → list_all in_comment (b ∷ w) ≡ true → lines ((b ∷ w) ++ u) ≡ onto_line (b ∷ w) (lines u)
-lines_inside b [] u a = let e : is_line_feed b ≡ false = feed b (and_parts (in_comment b) true a).0 in rw e (onto_byte b (lines u))
-  where
-    feed : (b : ℕ) → in_comment b ≡ true → is_line_feed b ≡ false
-    feed b h = go (is_line_feed b) h
-      where
-        go : (t : Bool) → not t ≡ true → t ≡ false
-        go true h = absurd cc
-        go false h = refl
+lines_inside b [] u a = let e : is_line_feed b ≡ false = not-true (is_line_feed b) (and_parts (in_comment b) true a).0 in rw e (onto_byte b (lines u))
 lines_inside b (c ∷ w) u a =
     let s = and_parts (in_comment b) (list_all in_comment (c ∷ w)) a in
-    let e : is_line_feed b ≡ false = feed (is_line_feed b) s.0 in
+    let e : is_line_feed b ≡ false = not-true (is_line_feed b) s.0 in
     let r : lines ((c ∷ w) ++ u) ≡ onto_line (c ∷ w) (lines u) = lines_inside c w u s.1 in
     pick e ∙ ap (onto_first b) r ∙ onto_more b (c ∷ w) (lines u)
   where
-    feed : (t : Bool) → not t ≡ true → t ≡ false
-    feed true h = absurd cc
-    feed false h = refl
-
     pick : is_line_feed b ≡ false → lines (b ∷ ((c ∷ w) ++ u)) ≡ onto_first b (lines ((c ∷ w) ++ u))
     pick e = ap (λ (t : Bool). if t then (b ∷ []) ∷ lines ((c ∷ w) ++ u) else onto_first b (lines ((c ∷ w) ++ u))) e
 
@@ -295,25 +287,25 @@ none_put old new (c ∷ cs) h =
 
 module _ (old new : List ℕ) (limit : ℕ) (name : is_name limit new ≡ true) where
   -- a plain line is plain after the replacing, if it is short enough
-  line_plain : (cs : List Chunk) → AreFine cs → is_plain_line (joined cs) ≡ true → (list_any (is_old old) cs ≡ true → length (joined (map (put old new) cs)) ≤ 133) → is_plain_line (joined (map (put old new) cs)) ≡ true
+  line_plain : (cs : List Chunk) → AreFine cs → is_plain_line (joined cs) ≡ true → (list_any (is_old old) cs ≡ true → length (joined (map (put old new) cs)) ≤ (line_limit + 1)) → is_plain_line (joined (map (put old new) cs)) ≡ true
   line_plain cs fs p short = go (list_any (is_old old) cs) refl short
     where
-      go : (t : Bool) → list_any (is_old old) cs ≡ t → (t ≡ true → length (joined (map (put old new) cs)) ≤ 133) → is_plain_line (joined (map (put old new) cs)) ≡ true
+      go : (t : Bool) → list_any (is_old old) cs ≡ t → (t ≡ true → length (joined (map (put old new) cs)) ≤ (line_limit + 1)) → is_plain_line (joined (map (put old new) cs)) ≡ true
       go false none h = ap is_plain_line (none_put old new cs none) ∙ p
       go true some h =
-          let s = and_parts (ends_with ◌==◌ (joined cs) (10 ∷ []) && nat_le (length (joined cs)) 133) (list_all is_plain_byte (joined cs)) p in
-          let t = and_parts (ends_with ◌==◌ (joined cs) (10 ∷ [])) (nat_le (length (joined cs)) 133) s.0 in
+          let s = and_parts (ends_with ◌==◌ (joined cs) (10 ∷ []) && nat_le (length (joined cs)) (line_limit + 1)) (list_all is_plain_byte (joined cs)) p in
+          let t = and_parts (ends_with ◌==◌ (joined cs) (10 ∷ [])) (nat_le (length (joined cs)) (line_limit + 1)) s.0 in
           let e = (ends_is {E = ◌==◌} Decides-eqb (joined cs) (10 ∷ []) (ends_with ◌==◌ (joined cs) (10 ∷ [])) refl).0 t.0 in
           let r = line_ends old new cs fs (take (length (joined cs) - 1) (joined cs), e) in
           let d : ends_with ◌==◌ (joined (map (put old new) cs)) (10 ∷ []) ≡ true =
           (ends_is {E = ◌==◌} Decides-eqb (joined (map (put old new) cs)) (10 ∷ []) (ends_with ◌==◌ (joined (map (put old new) cs)) (10 ∷ [])) refl).1 r.0 r.1 in
-          and_from (ends_with ◌==◌ (joined (map (put old new) cs)) (10 ∷ []) && nat_le (length (joined (map (put old new) cs))) 133) (list_all is_plain_byte (joined (map (put old new) cs)))
-          (and_from (ends_with ◌==◌ (joined (map (put old new) cs)) (10 ∷ [])) (nat_le (length (joined (map (put old new) cs))) 133) d (le-leb (length (joined (map (put old new) cs))) 133 (h refl)))
+          and_from (ends_with ◌==◌ (joined (map (put old new) cs)) (10 ∷ []) && nat_le (length (joined (map (put old new) cs))) (line_limit + 1)) (list_all is_plain_byte (joined (map (put old new) cs)))
+          (and_from (ends_with ◌==◌ (joined (map (put old new) cs)) (10 ∷ [])) (nat_le (length (joined (map (put old new) cs))) (line_limit + 1)) d (le-leb (length (joined (map (put old new) cs))) (line_limit + 1) (h refl)))
           (plain_put old new (name_plain limit new name) cs s.1)
 
   -- each line with a replaced word is short enough
   abbrev pub AreShort : List (List Chunk) → Type 0
-  AreShort ls = (i : ℕ) (l : List Chunk) → slice_get ls i ≡ Some l → list_any (is_old old) l ≡ true → length (joined (map (put old new) l)) ≤ 133
+  AreShort ls = (i : ℕ) (l : List Chunk) → slice_get ls i ≡ Some l → list_any (is_old old) l ≡ true → length (joined (map (put old new) l)) ≤ (line_limit + 1)
 
   -- plain lines are plain after the replacing
   lines_plain : (ls : List (List Chunk)) → AreFineLines ls → list_all is_plain_line (map joined ls) ≡ true → AreShort ls → list_all is_plain_line (map joined (map (map (put old new)) ls)) ≡ true
@@ -331,15 +323,11 @@ module _ (old new : List ℕ) (limit : ℕ) (name : is_name limit new ≡ true) 
 
 -- ---- the lines of tokens
 
--- one line that is there is one line
-some_line : (a b : List Chunk) → Some a ≡ Some b → a ≡ b
-some_line a b e = cc
-
 -- a replaced word on a line is the piece in front, or stands on that line of the rest
 get_onto : (old : List ℕ) (c : Chunk) (ls : List (List Chunk)) (i : ℕ) (l : List Chunk) → slice_get (onto_first c ls) i ≡ Some l → list_any (is_old old) l ≡ true
     → ((is_old old c ≡ true) × (i ≡ 0)) ⊎ ((m : List Chunk) × (slice_get ls i ≡ Some m) × (list_any (is_old old) m ≡ true))
 get_onto old c [] zero l e h =
-    let d : c ∷ [] ≡ l = some_line (c ∷ []) l e in
+    let d : c ∷ [] ≡ l = same_Some (c ∷ []) l e in
     let k : (is_old old c || false) ≡ true = ap (list_any (is_old old)) d ∙ h in
     go (or_cases (is_old old c) false k)
   where
@@ -348,7 +336,7 @@ get_onto old c [] zero l e h =
     go (inr o) = absurd cc
 get_onto old c [] (suc i) l e h = absurd cc
 get_onto old c (m ∷ ls) zero l e h =
-    let d : c ∷ m ≡ l = some_line (c ∷ m) l e in
+    let d : c ∷ m ≡ l = same_Some (c ∷ m) l e in
     let k : (is_old old c || list_any (is_old old) m) ≡ true = ap (list_any (is_old old)) d ∙ h in
     go (or_cases (is_old old c) (list_any (is_old old) m) k)
   where
@@ -402,7 +390,7 @@ token_on_line old q at line (c ∷ cs) a i l e h =
 
     go : (t : Bool) → is_line_end c.0 ≡ t → (i : ℕ) → slice_get (if t then (c ∷ []) ∷ chunk_lines cs else onto_first c (chunk_lines cs)) i ≡ Some l → (is_old old c ≡ true → q line ≡ true) → Rest → q (line + i) ≡ true
     go true k zero e here rest =
-        let d : (is_old old c || false) ≡ true = ap (list_any (is_old old)) (some_line (c ∷ []) l e) ∙ h in
+        let d : (is_old old c || false) ≡ true = ap (list_any (is_old old)) (same_Some (c ∷ []) l e) ∙ h in
         absurd (only (or_cases (is_old old c) false d))
       where
         only : (is_old old c ≡ true) ⊎ (false ≡ true) → ⊥

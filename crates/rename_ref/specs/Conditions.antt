@@ -4,11 +4,10 @@ use Rattle.std.specs.List.{find}
 use Rattle.std.specs.Str.{bytes_eq}
 use Rattle.ftn_base.specs.Keywords.{is_keyword, is_intrinsic}
 use Rattle.ftn_base.specs.Letters.{folded}
-use Rattle.ftn_base.specs.Limits.{name_limit}
+use Rattle.ftn_base.specs.Limits.{line_limit, name_limit}
 use Rattle.ftn_base.specs.Names.{is_name}
 use Rattle.ftn_base.specs.declared.name.Edition.TheVariants.{F90}
 use Rattle.ftn_tree.specs.declared.token.Token.{Token}
-use Rattle.ftn_tree.specs.Breaks.{line_limit}
 use Rattle.free_scan.specs.Lines.{lines}
 use Rattle.rename_ref.specs.declared.rename.Rename.{Rename}
 use Rattle.rename_ref.specs.declared.judgement.Cond.{Cond}

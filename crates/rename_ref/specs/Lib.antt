@@ -1,10 +1,9 @@
 pub mod Names
 pub mod Edits
-pub mod LineLengths
 pub mod Conditions
 pub mod Meaning
 pub mod Renaming
 pub mod Kept
 pub mod Keeping
 pub mod MeaningLaws
-pub mod MeaningSteps
+pub mod steps

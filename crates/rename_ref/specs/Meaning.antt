@@ -1,12 +1,13 @@
 -- What a program in first form does within a number of steps. An expression is a tree that leans to the left
 -- (Fortran 90, 7.1.3); each node takes one step before its operands, which are evaluated from left to right;
 -- each statement takes one step as it begins. The count of steps is this project's own.
-use Rattle.std.specs.Prelude.{ℕ, zero, suc, ℤ, pos, negsuc, ◌+ℤ◌, ◌-ℤ◌, Bool, nat_lt, List, [], ◌∷◌, ◌++◌, Result, Ok, Err, if◌then◌else◌, ◌^◌}
+use Rattle.std.specs.Prelude.{ℕ, zero, suc, ℤ, pos, ◌+ℤ◌, ◌-ℤ◌, List, [], ◌∷◌, ◌++◌, Result, Ok, Err, if◌then◌else◌}
 use Rattle.std.specs.List.{flat_map}
 use Rattle.std.specs.Option.{ok_or}
 use Rattle.std.specs.Map.{lookup}
 use Rattle.std.specs.Str.{bytes_eq}
 use Rattle.std.specs.Fmt.{signed_decimal}
+use Rattle.ftn_base.specs.Arithmetic.{is_integer}
 use Rattle.free_scan.specs.declared.first_form.program.Operand.{Operand}
 use Rattle.free_scan.specs.declared.first_form.program.Operand.TheVariants as operands
 use Rattle.free_scan.specs.declared.first_form.program.Sign.{Sign}
@@ -47,12 +48,9 @@ abbrev pub step : ℕ → Result ℕ Outcome
 step zero = Err Spent
 step (suc left) = Ok left
 
-abbrev pub fits : ℤ → Bool
-fits (pos n) = nat_lt n (2 ^ 31)
-fits (negsuc n) = nat_lt n (2 ^ 31)
-
+-- 7.1.5.2: the whole number, where it is an integer of 32 bits
 abbrev pub kept : ℤ → Result ℤ Outcome
-kept z = if fits z then Ok z else Err (Fault Overflow)
+kept z = if is_integer z then Ok z else Err (Fault Overflow)
 
 abbrev pub combined : Sign → ℤ → ℤ → Result ℤ Outcome
 combined Plus a b = kept (a +ℤ b)

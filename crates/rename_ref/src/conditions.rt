@@ -8,18 +8,15 @@ ghost use Rattle.ftn_base.specs.Keywords as keywords;
 ghost use Rattle.free_scan.specs.Lines.{lines};
 ghost use Rattle.rename_ref.specs.Conditions as spec;
 ghost use Rattle.rename_ref.specs.Edits.{replacing as replacing_of};
-ghost use Rattle.rename_ref.specs.LineLengths.{is_long_in, last_length};
+ghost use Rattle.rename_ref.specs.steps.LineLengths.{is_long_in, last_length};
 ghost use Rattle.rename_ref.specs.Names as names;
 ghost use Rattle.rename_ref.specs.Names.{denoting, name_tokens};
 
 use crate::edits::Edit;
 use crate::rename::Rename;
-use ftn_base::{Bytes, FileName, NoMemory, is_intrinsic, is_keyword, offset_at};
+use ftn_base::{Bytes, FileName, LINE_LIMIT, NoMemory, is_intrinsic, is_keyword, offset_at};
 use ftn_tree::{Token, TokenKind};
 use std::alloc::Global;
-
-/// How many bytes a line may have, its LF among them (3.3.1).
-const LINE_LIMIT: usize = 133;
 
 /// Whether no name may be given this one: a word of statements or an intrinsic function, in lower case.
 pub fn is_reserved(word: &[u8]) -> bool
@@ -151,7 +148,7 @@ fn is_long(lengths: &[usize], line: u32) -> bool
 {
     let index = line.saturating_sub(1) as usize;
     match lengths.get(index) {
-        Some(length) => *length > LINE_LIMIT,
+        Some(length) => *length > LINE_LIMIT + 1,
         None => false,
     }
 }

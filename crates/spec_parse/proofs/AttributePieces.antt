@@ -11,17 +11,17 @@ use Rattle.ftn_tree.specs.declared.lexeme.Lexeme.TheVariants.{Close}
 use Rattle.ftn_tree.specs.Lexemes.{same_lexeme}
 use Rattle.ftn_tree.specs.Phrases.{Phrase, never, ◌·◌, word, word_at, whether}
 use Rattle.ftn_tree.specs.SpecificationForms as form
-use Rattle.expr_parse.specs.Input.{Input, input, sees_word, expect_word}
-use Rattle.expr_parse.specs.Combinators.{◌<$>◌}
+use Rattle.ftn_tree.proofs.PhraseLaws.{drop_end, add_end}
+use Rattle.expr_parse.specs.steps.Input.{Input, input, sees_word, expect_word}
+use Rattle.expr_parse.specs.steps.Combinators.{◌<$>◌}
 use Rattle.expr_parse.proofs.Pieces.{Piece, Apart, reread}
 use Rattle.expr_parse.proofs.AllKinds.{apart}
 use Rattle.expr_parse.proofs.Tokens.{only, none_of, word_piece, word_made, word_back, after_word, parens}
 use Rattle.spec_parse.specs.steps.Attributes as spec
-use Rattle.spec_parse.specs.steps.Attributes.{access_word, procedure_word, in_or_out, intent_mode, plain_attribute, word_attribute, attribute_kind, attribute, sees_access, sees_procedure}
+use Rattle.spec_parse.specs.steps.Attributes.{access_word, procedure_word, in_or_out, intent_mode}
 use Rattle.spec_parse.proofs.Choices.{choice, chosen_plain}
 use Rattle.spec_parse.proofs.Flags.{word_flag}
 use Rattle.spec_parse.proofs.Seen.{starts_word, starts_word_at, starts_first, shows, hides}
-use Rattle.spec_parse.proofs.BoundPieces.{drop_nothing, add_nothing}
 
 -- ---- PUBLIC and PRIVATE, EXTERNAL and INTRINSIC
 
@@ -80,11 +80,11 @@ in_piece = after_word (codes "in") (word_flag (codes "out"))
 
 pub in_made : (b : Bool) (at : ℕ) (tokens : List Token) → in_piece.phrase b at tokens → in_text (spec.in_or_inout b) at tokens
 in_made true at tokens says = says
-in_made false at tokens says = drop_nothing (word (codes "in")) at tokens says
+in_made false at tokens says = drop_end (word (codes "in")) at tokens says
 
 pub in_back : (c : IntentMode) (at : ℕ) (tokens : List Token) → in_text c at tokens
     → ((b : Bool) × (spec.in_or_inout b ≡ c) × in_piece.phrase b at tokens) ⊎ ((n : ℕ) × (spec.out n ≡ c) × word_at n (codes "out") at tokens)
-in_back mode.In at tokens says = inl (false, refl, add_nothing (word (codes "in")) at tokens says)
+in_back mode.In at tokens says = inl (false, refl, add_end (word (codes "in")) at tokens says)
 in_back mode.Out at tokens says = let (n, says_n) = word_back (codes "out") at tokens says in inr (n, refl, says_n)
 in_back (mode.InOut true) at tokens says = absurd says
 in_back (mode.InOut false) at tokens says = inl (true, refl, says)

@@ -1,15 +1,15 @@
 -- Bounds are read as they are written.
-use Rattle.std.proofs.Common.{◌≡◌, refl, sym, ◌∙◌, ap, subst, arith, ℕ, List, [], ◌++◌, Option, Some, None, ◌⊎◌, inl, inr}
-use Rattle.std.proofs.lemmas.Grind.{common_steps}
+use Rattle.std.proofs.Common.{◌≡◌, refl, ℕ, List, Option, Some, None, ◌⊎◌, inl, inr}
 use Rattle.ftn_tree.specs.declared.token.Token.{Token}
 use Rattle.ftn_tree.specs.declared.expr.Expr.{Expr}
 use Rattle.ftn_tree.specs.declared.parts.BoundPair.{BoundPair}
 use Rattle.ftn_tree.specs.declared.lexeme.Lexeme.TheVariants.{Open, Close, Comma, Colon, Times}
 use Rattle.ftn_tree.specs.Lexemes.{same_lexeme}
-use Rattle.ftn_tree.specs.Phrases.{Phrase, nothing, ◌·◌, mark_at}
+use Rattle.ftn_tree.specs.Phrases.{mark_at}
 use Rattle.ftn_tree.specs.Grammar.{expr}
 use Rattle.ftn_tree.specs.SpecificationForms as form
-use Rattle.expr_parse.specs.Input.{Input, sees}
+use Rattle.ftn_tree.proofs.PhraseLaws.{drop_end, add_end}
+use Rattle.expr_parse.specs.steps.Input.{Input, sees}
 use Rattle.expr_parse.proofs.Pieces.{Piece, Apart, reread, option, seq}
 use Rattle.expr_parse.proofs.AllKinds.{apart}
 use Rattle.expr_parse.proofs.Tokens.{only, none_of, mark_piece, bare_made, bare_back, after_mark, before_mark, parens}
@@ -21,16 +21,6 @@ use Rattle.spec_parse.proofs.Choices.{choice, checked_piece}
 use Rattle.spec_parse.proofs.Seen.{seen, unseen, after_mark_first}
 use Rattle.spec_parse.proofs.Lengths.{starts_no_times}
 use Rattle.spec_parse.proofs.TypePieces.{operand, itself}
-
-none_after : (tokens : List Token) → tokens ++ [] ≡ tokens
-none_after tokens = grind (arith, common_steps)
-
--- a phrase and then nothing
-pub drop_nothing : (phrase : Phrase) (at : ℕ) (tokens : List Token) → (phrase · nothing) at tokens → phrase at tokens
-drop_nothing phrase at tokens (before, after, split, says, none) = subst (λ tokens. phrase at tokens) (sym (split ∙ ap (λ after. before ++ after) none ∙ none_after before)) says
-
-pub add_nothing : (phrase : Phrase) (at : ℕ) (tokens : List Token) → phrase at tokens → (phrase · nothing) at tokens
-add_nothing phrase at tokens says = (tokens, [], sym (none_after tokens), says, refl)
 
 module _ (laws : ReadsExpressions) where
   pub upper_back : (c : Option Expr) (at : ℕ) (tokens : List Token) → form.upper_bound c at tokens
@@ -70,13 +60,13 @@ module _ (laws : ReadsExpressions) where
   pair_piece = seq (operand laws) rest_piece colon_no_more
 
   pub pair_made : (b : Expr × Option (Option Expr)) (at : ℕ) (tokens : List Token) → pair_piece.phrase b at tokens → form.bound (spec.pair_of b) at tokens
-  pair_made (first, None) at tokens says = drop_nothing (expr first) at tokens says
+  pair_made (first, None) at tokens says = drop_end (expr first) at tokens says
   pair_made (first, Some high) at tokens says = says
 
   pub bound_back_by : (low high : Option Expr) (at : ℕ) (tokens : List Token) → form.bound_by low high at tokens
       → ((n : ℕ) × (spec.assumed n ≡ spec.pair low high) × mark_at n Times at tokens) ⊎ ((b : Expr × Option (Option Expr)) × (spec.pair_of b ≡ spec.pair low high) × pair_piece.phrase b at tokens)
   bound_back_by None None at tokens says = let (n, says_n) = bare_back Times at tokens says in inl (n, refl, says_n)
-  bound_back_by None (Some high) at tokens says = inr ((high, None), refl, add_nothing (expr high) at tokens says)
+  bound_back_by None (Some high) at tokens says = inr ((high, None), refl, add_end (expr high) at tokens says)
   bound_back_by (Some low) high at tokens says = inr ((low, Some high), refl, says)
 
   pub pair_no_times : Apart pair_piece.first (only Times)

@@ -1,24 +1,16 @@
 -- Pieces that choose, and pieces that test what they have read.
-use Rattle.std.proofs.Common.{◌≡◌, refl, sym, ◌∙◌, ap, subst, ℕ, ◌+◌, Bool, true, false, ◌||◌, List, [], ◌∷◌, ◌++◌, length, Option, Some, None, ◌⊎◌, inl, inr, if◌then◌else◌}
+use Rattle.std.proofs.Common.{◌≡◌, refl, sym, ◌∙◌, ap, subst, ℕ, ◌+◌, Bool, true, false, ◌||◌, List, [], ◌++◌, length, Option, Some, None, ◌⊎◌, inl, inr, if◌then◌else◌}
 use Rattle.std.proofs.lemmas.Bool.{or_left, or_right}
+use Rattle.std.proofs.lemmas.Option.{some_pair_parts}
 use Rattle.ftn_tree.specs.declared.token.Token.{Token}
 use Rattle.ftn_tree.specs.declared.lexeme.Lexeme.{Lexeme}
-use Rattle.ftn_tree.specs.Lexemes.{lexeme_of}
 use Rattle.ftn_tree.specs.Phrases.{Phrase, provided}
-use Rattle.expr_parse.specs.Input.{Input, input, Reader, Outcome, and_then, pure, refuse}
-use Rattle.expr_parse.specs.Combinators.{◌<$>◌}
-use Rattle.expr_parse.proofs.Pieces.{Piece, Took, begins, begins_or, bind_some, bind_is, some_pair}
+use Rattle.expr_parse.specs.steps.Input.{Input, input, Reader, Outcome, and_then, pure, refuse}
+use Rattle.expr_parse.specs.steps.Combinators.{◌<$>◌}
+use Rattle.expr_parse.proofs.Pieces.{Piece, Took, begins, begins_or, bind_some, bind_is, begins_left, begins_right}
 use Rattle.spec_parse.specs.steps.Choices.{choose, checked, numbered, picked, given}
 
 -- ---- one or the other
-
-pub begins_left : (one other : Lexeme → Bool) (tokens : List Token) → begins one tokens ≡ true → begins (λ kind. one kind || other kind) tokens ≡ true
-begins_left one other [] e = e
-begins_left one other (here ∷ rest) e = or_left (one (lexeme_of here)) (other (lexeme_of here)) e
-
-pub begins_right : (one other : Lexeme → Bool) (tokens : List Token) → begins other tokens ≡ true → begins (λ kind. one kind || other kind) tokens ≡ true
-begins_right one other [] e = e
-begins_right one other (here ∷ rest) e = or_right (one (lexeme_of here)) (other (lexeme_of here)) e
 
 module _ {A B C : Type 0} (test : Input → Bool) (one : Piece A) (f : A → C) (other : Piece B) (g : B → C) (phrase : C → Phrase)
     (made_one : (a : A) (at : ℕ) (tokens : List Token) → one.phrase a at tokens → phrase (f a) at tokens)
@@ -58,13 +50,13 @@ module _ {A B C : Type 0} (test : Input → Bool) (one : Piece A) (f : A → C) 
     by : (first : Bool) → test i ≡ first → Took (phrase c) i j
     by true is =
         let (a, k, read, gives) = bind_some (one.read i) (λ a. pure (f a)) c j (sym (ap (λ first. if first then (f <$> one.read) i else (g <$> other.read) i) is) ∙ e) in
-        let same = some_pair (f a) c k j gives in
+        let same = some_pair_parts (f a) c k j gives in
         let took = one.sound i a k read in
         subst (λ c. Took (phrase c) i j) same.0 (subst (λ j. Took (phrase (f a)) i j) same.1
         (record { tokens = took.tokens; rest = took.rest; at = took.at; says = made_one a i.at took.tokens took.says }))
     by false is =
         let (b, k, read, gives) = bind_some (other.read i) (λ b. pure (g b)) c j (sym (ap (λ first. if first then (f <$> one.read) i else (g <$> other.read) i) is) ∙ e) in
-        let same = some_pair (g b) c k j gives in
+        let same = some_pair_parts (g b) c k j gives in
         let took = other.sound i b k read in
         subst (λ c. Took (phrase c) i j) same.0 (subst (λ j. Took (phrase (g b)) i j) same.1
         (record { tokens = took.tokens; rest = took.rest; at = took.at; says = made_other b i.at took.tokens took.says }))
@@ -117,7 +109,7 @@ module _ {A : Type 0} (test : A → Bool) (piece : Piece A) where
   sound_checked i a j e = by (bind_some (piece.read i) (λ a. if test a then pure a else refuse) a j e) where
     took_it : (b : A) (k : Input) → piece.read i ≡ Some (b, k) → test b ≡ true → ◌≡◌ {A = Option (A × Input)} (Some (b, k)) (Some (a, j)) → Took (provided (test a) (piece.phrase a)) i j
     took_it b k read passes gives =
-        let same = some_pair b a k j gives in
+        let same = some_pair_parts b a k j gives in
         let took = piece.sound i b k read in
         subst (λ a. Took (provided (test a) (piece.phrase a)) i j) same.0 (subst (λ j. Took (provided (test b) (piece.phrase b)) i j) same.1
         (record { tokens = took.tokens; rest = took.rest; at = took.at; says = (passes, took.says) }))
@@ -158,7 +150,7 @@ module _ {A : Type 0} (piece : Piece A) where
   pub sound_numbered : (i : Input) (both : ℕ × A) (j : Input) → numbered piece.read i ≡ Some (both, j) → Took (numbered_phrase both) i j
   sound_numbered i both j e =
       let (a, k, read, gives) = bind_some (piece.read i) (λ a. pure (i.at, a)) both j e in
-      let same = some_pair (i.at, a) both k j gives in
+      let same = some_pair_parts (i.at, a) both k j gives in
       let took = piece.sound i a k read in
       subst (λ both. Took (numbered_phrase both) i j) same.0 (subst (λ j. Took (numbered_phrase (i.at, a)) i j) same.1
       (record { tokens = took.tokens; rest = took.rest; at = took.at; says = (refl, took.says) }))
@@ -196,7 +188,7 @@ module _ {A B : Type 0} (pick : A → Option B) (piece : Piece A) (phrase : B �
       by_pick : (got : Option B) → pick a ≡ got → given (pick a) k ≡ Some (b, j) → Took (phrase b) i j
       by_pick None is gives = absurd (cc (sym (ap (λ got. given {A = B} got k) is) ∙ gives))
       by_pick (Some c) is gives =
-          let same = some_pair c b k j (sym (ap (λ got. given got k) is) ∙ gives) in
+          let same = some_pair_parts c b k j (sym (ap (λ got. given got k) is) ∙ gives) in
           let took = piece.sound i a k read in
           subst (λ b. Took (phrase b) i j) same.0 (subst (λ j. Took (phrase c) i j) same.1
           (record { tokens = took.tokens; rest = took.rest; at = took.at; says = made a c i.at took.tokens is took.says }))

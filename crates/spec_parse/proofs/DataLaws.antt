@@ -1,5 +1,5 @@
 -- DATA is read as it is written.
-use Rattle.std.proofs.Common.{◌≡◌, refl, sym, ◌∙◌, ap, subst, ℕ, Bool, true, false, not, List, [], ◌∷◌, ◌++◌, ◌+◌, length, Some, codes}
+use Rattle.std.proofs.Common.{◌≡◌, refl, ℕ, Bool, true, false, not, List, [], ◌∷◌, ◌+◌, length, codes}
 use denote.Hole.Carrier
 use Rattle.ftn_tree.specs.declared.token.Token.{Token}
 use Rattle.ftn_tree.specs.declared.form.Form.{out-Form}
@@ -10,11 +10,11 @@ use Rattle.ftn_tree.specs.declared.parts.DataValue.{DataValue}
 use Rattle.ftn_tree.specs.declared.parts.DataGroup.{DataGroup}
 use Rattle.ftn_tree.specs.declared.lexeme.Lexeme.TheVariants.{Comma, Divide}
 use Rattle.ftn_tree.specs.Lexemes.{same_lexeme}
-use Rattle.ftn_tree.specs.Phrases.{Phrase, ◌·◌, provided, mark, whether, commas, each}
+use Rattle.ftn_tree.specs.Phrases.{Phrase, ◌·◌, provided, mark, commas}
 use Rattle.ftn_tree.specs.UnitForms.{unit_form_at}
 use Rattle.ftn_tree.specs.SpecificationForms as form
 use Rattle.ftn_tree.specs.SpecificationForms.{declaration_at}
-use Rattle.expr_parse.specs.Input.{Input}
+use Rattle.expr_parse.specs.steps.Input.{Input}
 use Rattle.expr_parse.proofs.Pieces.{Piece, Apart, mapped, reread, seq}
 use Rattle.expr_parse.proofs.AllKinds.{apart}
 use Rattle.expr_parse.proofs.Tokens.{only, apart_none, before_mark, after_word}
@@ -25,7 +25,7 @@ use Rattle.spec_parse.proofs.DataValues.{value_piece}
 use Rattle.spec_parse.proofs.Each.{row_phrase, row_piece}
 use Rattle.spec_parse.proofs.Either.{rephrased}
 use Rattle.spec_parse.proofs.Flags.{flag}
-use Rattle.spec_parse.proofs.Regroup.{to_right, to_left, add_none, drop_none}
+use Rattle.ftn_tree.proofs.PhraseLaws.{to_right, to_left, add_none, drop_none}
 use Rattle.spec_parse.proofs.StatementPieces.{designators_piece}
 use Rattle.spec_parse.proofs.Wholes.{Sound, GivesForm, row_sound, row_complete}
 

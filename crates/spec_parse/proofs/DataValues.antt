@@ -1,5 +1,6 @@
 -- The values of DATA are read as they are written.
-use Rattle.std.proofs.Common.{◌≡◌, refl, sym, ◌∙◌, ap, subst, ℕ, ℤ, ◌+◌, Bool, true, false, ◌||◌, List, [], ◌∷◌, ◌++◌, length, Option, Some, None, ◌⊎◌, inl, inr}
+use Rattle.std.proofs.Common.{◌≡◌, refl, sym, ◌∙◌, ap, subst, ℕ, ℤ, Bool, true, false, ◌||◌, List, [], ◌∷◌, ◌++◌, Option, Some, None, ◌⊎◌, inl, inr}
+use Rattle.std.proofs.lemmas.Option.{same_Some}
 use denote.Hole.Carrier
 use Rattle.ftn_tree.specs.declared.token.Token.{Token}
 use Rattle.ftn_tree.specs.declared.expr.Expr.{out-Expr}
@@ -14,24 +15,24 @@ use Rattle.ftn_tree.specs.declared.lexeme.Lexeme.{Lexeme}
 use Rattle.ftn_tree.specs.declared.lexeme.Lexeme.TheVariants as lexeme
 use Rattle.ftn_tree.specs.declared.lexeme.Lexeme.TheVariants.{Word, Whole, Quoted, True, False, Plus, Minus, Times}
 use Rattle.ftn_tree.specs.Lexemes.{lexeme_of, same_lexeme}
-use Rattle.ftn_tree.specs.Phrases.{Phrase, nothing, never, ◌·◌, token, mark, mark_at, name, maybe}
+use Rattle.ftn_tree.specs.Phrases.{Phrase, never, ◌·◌, token, mark, mark_at, name, maybe}
 use Rattle.ftn_tree.specs.Grammar.{truth_lexeme}
 use Rattle.ftn_tree.specs.TypeForms.{whole_number}
 use Rattle.ftn_tree.specs.SpecificationForms as form
-use Rattle.expr_parse.specs.Input.{Input, input, Reader, and_then, sees, peek_second}
-use Rattle.expr_parse.specs.Combinators.{◌<$>◌}
-use Rattle.expr_parse.specs.Reading.{whole_value, whole_at, constant_by, take_one, constant}
+use Rattle.expr_parse.specs.steps.Input.{Input, input, and_then, sees, peek_second}
+use Rattle.expr_parse.specs.steps.Combinators.{◌<$>◌}
+use Rattle.expr_parse.specs.steps.Reading.{whole_value, whole_at, constant_by, take_one, constant}
 use Rattle.expr_parse.proofs.Pieces.{Piece, Apart, begins, reread, seq}
 use Rattle.expr_parse.proofs.AllKinds.{apart, within}
-use Rattle.expr_parse.proofs.Tokens.{only, none_of, is_same, apart_none, mark_piece, name_piece, bare_made, bare_back, before_mark}
+use Rattle.expr_parse.proofs.Tokens.{only, none_of, mark_piece, name_piece, bare_made, bare_back, before_mark}
 use Rattle.spec_parse.specs.steps.Choices.{given}
 use Rattle.spec_parse.specs.steps.Data as spec
 use Rattle.spec_parse.proofs.Choices.{choice, chosen_plain}
 use Rattle.spec_parse.proofs.Either.{rephrased}
-use Rattle.spec_parse.proofs.Numbers.{number_by, number_here, is_number, number_is, number_phrase, number_piece}
-use Rattle.spec_parse.proofs.Regroup.{add_none, drop_none}
-use Rattle.spec_parse.proofs.Seen.{sees_is, seen, unseen}
-use Rattle.spec_parse.proofs.Told.{told, told_phrase, read_told}
+use Rattle.spec_parse.proofs.Numbers.{number_by, is_number, number_is, number_phrase, number_piece}
+use Rattle.ftn_tree.proofs.PhraseLaws.{add_none, drop_none}
+use Rattle.spec_parse.proofs.Seen.{seen, unseen}
+use Rattle.spec_parse.proofs.Told.{told, told_phrase}
 use Rattle.spec_parse.proofs.TypePieces.{itself}
 
 -- ---- signs
@@ -104,20 +105,17 @@ literal_kind at here c e = kind_by (lexeme_of here) at here.value c e
 abbrev told_literal : Piece DataConstant
 told_literal = told literal_here is_literal literal_kind
 
-some_is : (one other : DataConstant) → ◌≡◌ {A = Option DataConstant} (Some one) (Some other) → one ≡ other
-some_is one other e = cc e
-
 whole_says : (here : Token) (at : ℕ) (c : DataConstant) → lexeme_of here ≡ Whole → (value : Option ℤ) → whole_value here.value ≡ value → whole_literal at value ≡ Some c → literal_text c at (here ∷ [])
 whole_says here at c kind None is e = absurd (cc e)
 whole_says here at c kind (Some value) is e =
-    subst (λ c. literal_text c at (here ∷ [])) (some_is (constants.Whole None at value) c e)
+    subst (λ c. literal_text c at (here ∷ [])) (same_Some (constants.Whole None at value) c e)
     (here, refl, (refl, is_number here value (ap (λ kind. number_by kind here.value) kind ∙ is)))
 
 literal_says : (kind : Lexeme) (here : Token) (at : ℕ) (c : DataConstant) → lexeme_of here ≡ kind → literal_by kind at here.value ≡ Some c → literal_text c at (here ∷ [])
 literal_says lexeme.Whole here at c is e = whole_says here at c is (whole_value here.value) refl e
-literal_says lexeme.True here at c is e = subst (λ c. literal_text c at (here ∷ [])) (some_is (constants.Truth at true) c e) (here, refl, (refl, is))
-literal_says lexeme.False here at c is e = subst (λ c. literal_text c at (here ∷ [])) (some_is (constants.Truth at false) c e) (here, refl, (refl, is))
-literal_says lexeme.Quoted here at c is e = subst (λ c. literal_text c at (here ∷ [])) (some_is (constants.Quoted at here.value) c e) (here, refl, (refl, is, refl))
+literal_says lexeme.True here at c is e = subst (λ c. literal_text c at (here ∷ [])) (same_Some (constants.Truth at true) c e) (here, refl, (refl, is))
+literal_says lexeme.False here at c is e = subst (λ c. literal_text c at (here ∷ [])) (same_Some (constants.Truth at false) c e) (here, refl, (refl, is))
+literal_says lexeme.Quoted here at c is e = subst (λ c. literal_text c at (here ∷ [])) (same_Some (constants.Quoted at here.value) c e) (here, refl, (refl, is, refl))
 literal_says _ here at c is e = absurd (cc e)
 
 pub literal_made : (c : DataConstant) (at : ℕ) (tokens : List Token) → told_phrase literal_here is_literal literal_kind c at tokens → literal_text c at tokens

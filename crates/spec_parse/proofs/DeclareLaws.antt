@@ -1,5 +1,8 @@
 -- Type declarations are read as they are written.
-use Rattle.std.proofs.Common.{◌≡◌, refl, sym, ◌∙◌, ap, subst, ℕ, ◌+◌, Bool, true, false, ◌&&◌, List, [], ◌∷◌, ◌++◌, length, Some, ◌⊎◌, inl, inr, codes, if◌then◌else◌}
+use Rattle.std.proofs.Common.{◌≡◌, refl, sym, ◌∙◌, ap, subst, ℕ, ◌+◌, Bool, true, false, List, [], ◌∷◌, ◌++◌, length, Some, ◌⊎◌, inl, inr, codes, if◌then◌else◌}
+use Rattle.std.proofs.lemmas.Option.{some_pair_parts}
+use Rattle.std.proofs.lemmas.Bool.{and_left, and_right}
+use Rattle.std.proofs.lemmas.List.{append-nil}
 use denote.Hole.Carrier
 use Rattle.ftn_tree.specs.declared.token.Token.{Token}
 use Rattle.ftn_tree.specs.declared.form.Form.{Form, out-Form}
@@ -8,15 +11,15 @@ use Rattle.ftn_tree.specs.declared.form.Form.TheVariants as made
 use Rattle.ftn_tree.specs.declared.parts.TypeSpec.{TypeSpec}
 use Rattle.ftn_tree.specs.declared.parts.Attribute.{Attribute}
 use Rattle.ftn_tree.specs.declared.parts.EntityDecl.{EntityDecl}
-use Rattle.ftn_tree.specs.declared.lexeme.Lexeme.{Lexeme}
 use Rattle.ftn_tree.specs.declared.lexeme.Lexeme.TheVariants.{Word, Comma, Colons}
 use Rattle.ftn_tree.specs.Lexemes.{lexeme_of, is_word, same_lexeme}
 use Rattle.ftn_tree.specs.Phrases.{Phrase, ◌·◌, mark, whether, commas, provided}
 use Rattle.ftn_tree.specs.TypeForms.{type_text}
 use Rattle.ftn_tree.specs.SpecificationForms as form
-use Rattle.ftn_tree.specs.SpecificationForms.{declaration_at, is_declaration}
-use Rattle.expr_parse.specs.Input.{Input, input, Reader, and_then, pure, ◌>>◌, finish}
-use Rattle.expr_parse.proofs.Pieces.{Piece, Took, Apart, begins, bind_some, some_pair, took_both, placed}
+use Rattle.ftn_tree.specs.SpecificationForms.{declaration_at}
+use Rattle.ftn_tree.proofs.PhraseLaws.{placed}
+use Rattle.expr_parse.specs.steps.Input.{Input, input, Reader, and_then, pure, ◌>>◌, finish}
+use Rattle.expr_parse.proofs.Pieces.{Piece, Took, Apart, begins, bind_some, took_both, stops_before}
 use Rattle.expr_parse.proofs.AllKinds.{apart}
 use Rattle.expr_parse.proofs.Tokens.{only, word_kind}
 use Rattle.expr_parse.proofs.Commas.{tail}
@@ -40,18 +43,6 @@ colons_no_word : Apart (only Colons) (only Word)
 unfolding same_lexeme
 colons_no_word = apart (only Colons) (only Word) refl
 
-none_begins : (one other : Lexeme → Bool) (tokens rest : List Token) → Apart one other → begins one tokens ≡ true → begins other (tokens ++ rest) ≡ false
-none_begins one other [] rest apart e = absurd (cc e)
-none_begins one other (here ∷ tokens) rest apart e = apart (lexeme_of here) e
-
-both_false : (a b : Bool) → a ≡ false → (a && b) ≡ false
-both_false false b e = refl
-both_false true b e = absurd (cc e)
-
-second_false : (a b : Bool) → b ≡ false → (a && b) ≡ false
-second_false false b e = refl
-second_false true b e = e
-
 no_word : (text : List ℕ) (here : Token) (found : Bool) → is_word text here ≡ found → only Word (lexeme_of here) ≡ false → is_word text here ≡ false
 no_word text here true is e = absurd (cc (sym (word_kind text here is) ∙ e))
 no_word text here false is e = is
@@ -61,13 +52,13 @@ other_first : (tokens : List Token) → begins (only Word) tokens ≡ false → 
 unfolding begins_function
 other_first [] e = refl
 other_first (here ∷ []) e = refl
-other_first (here ∷ next ∷ rest) e = both_false (is_word (codes "function") here) (same_lexeme (lexeme_of next) Word) (no_word (codes "function") here (is_word (codes "function") here) refl e)
+other_first (here ∷ next ∷ rest) e = and_left (is_word (codes "function") here) (same_lexeme (lexeme_of next) Word) (no_word (codes "function") here (is_word (codes "function") here) refl e)
 
 -- nor does what has no word as its second token
 other_second : (here : Token) (rest : List Token) → begins (only Word) rest ≡ false → begins_function (here ∷ rest) ≡ false
 unfolding begins_function
 other_second here [] e = refl
-other_second here (next ∷ rest) e = second_false (is_word (codes "function") here) (same_lexeme (lexeme_of next) Word) e
+other_second here (next ∷ rest) e = and_right (is_word (codes "function") here) (same_lexeme (lexeme_of next) Word) e
 
 module _ (laws : ReadsExpressions) where
   -- what follows a type in a declaration of that type
@@ -85,21 +76,18 @@ module _ (laws : ReadsExpressions) where
       subst (λ tokens. begins_function tokens ≡ false) (sym (split ∙ ap (λ before. before ++ after) (split_entity ∙ ap (λ named. named ++ follow) is_one)))
       (other_second here (follow ++ after) (by ((after_name laws).begun (e.bounds, (e.length, e.value)) (at + length named) follow says_follow))) where
         by_more : (begins (only Comma) after ≡ true) ⊎ ((after ≡ []) × (true ≡ true)) → begins (only Word) after ≡ false
-        by_more (inl e) = subst (λ after. begins (only Word) after ≡ false) (none_more after) (none_begins (only Comma) (only Word) after [] comma_no_word e) where
-          none_more : (after : List Token) → after ++ [] ≡ after
-          none_more [] = refl
-          none_more (here ∷ after) = ap (λ after. here ∷ after) (none_more after)
+        by_more (inl e) = subst (λ after. begins (only Word) after ≡ false) (append-nil after) (stops_before (only Comma) (only Word) after [] comma_no_word e)
         by_more (inr e) = ap (begins (only Word)) e.0
 
         by : (begins (after_name laws).first follow ≡ true) ⊎ ((follow ≡ []) × ((after_name laws).empty ≡ true)) → begins (only Word) (follow ++ after) ≡ false
-        by (inl e) = none_begins (after_name laws).first (only Word) follow after after_name_no_word e
+        by (inl e) = stops_before (after_name laws).first (only Word) follow after after_name_no_word e
         by (inr e) = ap (λ follow. begins (only Word) (follow ++ after)) e.0 ∙ by_more ((tail (entity_piece laws) (comma_no_entity laws)).begun more (at + length before) after says_more)
 
   colons_no_function : (colons : Bool) (entities : List EntityDecl) (at : ℕ) (tokens : List Token) → (whether colons (mark Colons) · commas form.entity entities) at tokens → begins_function tokens ≡ false
   colons_no_function colons entities at tokens (before, after, split, says, says_entities) =
       subst (λ tokens. begins_function tokens ≡ false) (sym split) (by ((flag Colons).begun colons at before says)) where
         by : (begins (only Colons) before ≡ true) ⊎ ((before ≡ []) × (true ≡ true)) → begins_function (before ++ after) ≡ false
-        by (inl e) = other_first (before ++ after) (none_begins (only Colons) (only Word) before after colons_no_word e)
+        by (inl e) = other_first (before ++ after) (stops_before (only Colons) (only Word) before after colons_no_word e)
         by (inr e) = subst (λ before. begins_function (before ++ after) ≡ false) (sym e.0) (entities_no_function entities (at + length before) after says_entities)
 
   -- nor does what follows the type
@@ -107,7 +95,7 @@ module _ (laws : ReadsExpressions) where
   rest_no_function parts at tokens (before, after, split, says, says_rest) =
       subst (λ tokens. begins_function tokens ≡ false) (sym split) (by ((attributes_piece laws).begun parts.0 at before says)) where
         by : (begins (only Comma) before ≡ true) ⊎ ((before ≡ []) × (true ≡ true)) → begins_function (before ++ after) ≡ false
-        by (inl e) = other_first (before ++ after) (none_begins (only Comma) (only Word) before after comma_no_word e)
+        by (inl e) = other_first (before ++ after) (stops_before (only Comma) (only Word) before after comma_no_word e)
         by (inr e) = subst (λ before. begins_function (before ++ after) ≡ false) (sym e.0) (colons_no_function parts.1.0 parts.1.1 (at + length before) after says_rest)
 
   -- ---- sound
@@ -127,7 +115,7 @@ module _ (laws : ReadsExpressions) where
   unfolding declare_from
   declare_took ty form i j k typed declared =
       let (parts, l, read, gives) = bind_some ((rest_parts ty).read j) (λ parts. pure (spec.declaration_of ty parts)) form k declared in
-      let same = some_pair (spec.declaration_of ty parts) form l k gives in
+      let same = some_pair_parts (spec.declaration_of ty parts) form l k gives in
       let took = took_both (type_text ty) ((rest_parts ty).phrase parts) i j l ((type_piece laws).sound i ty j typed) ((rest_parts ty).sound j parts l read) in
       subst (λ form. Took (λ at tokens. declaration_at (out-Form form) at tokens) i k) same.0 (subst (λ k. Took (λ at tokens. declaration_at (out-Form (spec.declaration_of ty parts)) at tokens) i k) same.1
       (record { tokens = took.tokens; rest = took.rest; at = took.at; says = declare_made ty parts i.at took.tokens took.says }))

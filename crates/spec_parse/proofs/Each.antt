@@ -1,19 +1,16 @@
 -- A piece and then others of one kind, to the end of the statement.
-use Rattle.std.proofs.Common.{◌≡◌, refl, sym, ◌∙◌, ap, subst, arith, ℕ, zero, suc, ◌+◌, ◌≤◌, Bool, true, false, List, [], ◌∷◌, ◌++◌, length, Option, Some, append_assoc, ◌⊎◌, inl, inr, if◌then◌else◌}
+use Rattle.std.proofs.Common.{◌≡◌, refl, sym, ◌∙◌, ap, subst, arith, ℕ, zero, suc, ◌+◌, ◌≤◌, Bool, true, false, List, [], ◌∷◌, ◌++◌, length, Option, Some, append_assoc, ◌⊎◌, inl, inr, if◌then◌else◌, add-zero}
 use Rattle.std.proofs.lemmas.List.{append-nil}
 use Rattle.std.proofs.lemmas.Grind.{common_steps}
+use Rattle.std.proofs.lemmas.Option.{some_pair_parts}
 use Rattle.ftn_tree.specs.declared.token.Token.{Token}
 use Rattle.ftn_tree.specs.declared.lexeme.Lexeme.{Lexeme}
-use Rattle.ftn_tree.specs.Lexemes.{lexeme_of}
 use Rattle.ftn_tree.specs.Phrases.{Phrase, nothing, never, ◌·◌, each}
-use Rattle.expr_parse.specs.Input.{Input, input, Reader, ◌>>=◌, is_done, done_at}
-use Rattle.expr_parse.proofs.Pieces.{Piece, Took, Apart, begins, begins_after, bind_some, bind_is, some_pair, took_both, placed, plus_none}
-use Rattle.expr_parse.proofs.Ends.{any}
+use Rattle.ftn_tree.proofs.PhraseLaws.{placed}
+use Rattle.expr_parse.specs.steps.Input.{Input, input, Reader, ◌>>=◌, is_done, done_at}
+use Rattle.expr_parse.proofs.Pieces.{Piece, Took, Apart, begins, begins_after, bind_some, bind_is, took_both, apart_from}
+use Rattle.expr_parse.proofs.Ends.{any, no_rest}
 use Rattle.spec_parse.specs.steps.Data.{each_from}
-
-no_rest : (rest : List Token) → begins any rest ≡ false → rest ≡ []
-no_rest [] e = refl
-no_rest (here ∷ rest) e = absurd (cc e)
 
 not_done : (first : Lexeme → Bool) (tokens : List Token) → begins first tokens ≡ true → done_at tokens ≡ false
 not_done first [] e = absurd (cc e)
@@ -32,10 +29,6 @@ few n before after e f = grind (arith, common_steps)
 same_length : (tokens : List Token) → length tokens ≤ length tokens
 same_length tokens = omega arith
 
-apart_here : (one other : Lexeme → Bool) (tokens : List Token) → Apart one other → begins one tokens ≡ true → begins other tokens ≡ false
-apart_here one other [] apart e = refl
-apart_here one other (here ∷ tokens) apart e = apart (lexeme_of here) e
-
 module _ {A : Type 0} (piece : Piece A) (filled : piece.empty ≡ false) (apart : Apart piece.first piece.more) where
   begun_filled : (a : A) (at : ℕ) (tokens : List Token) → piece.phrase a at tokens → begins piece.first tokens ≡ true
   begun_filled a at tokens says = by (piece.begun a at tokens says) where
@@ -47,7 +40,7 @@ module _ {A : Type 0} (piece : Piece A) (filled : piece.empty ≡ false) (apart 
   stops : (more : Lexeme → Bool) (items : List A) (at : ℕ) (tokens : List Token) → Apart piece.first more → each piece.phrase items at tokens → begins more tokens ≡ false
   stops more [] at tokens other says = subst (λ tokens. begins more tokens ≡ false) (sym says) refl
   stops more (a ∷ items) at tokens other (before, after, split, says, says_rest) =
-      apart_here piece.first more tokens other (subst (λ tokens. begins piece.first tokens ≡ true) (sym split) (begins_after piece.first before after (begun_filled a at before says)))
+      apart_from piece.first more tokens other (subst (λ tokens. begins piece.first tokens ≡ true) (sym split) (begins_after piece.first before after (begun_filled a at before says)))
 
   -- ---- what is read is written so
 
@@ -58,11 +51,11 @@ module _ {A : Type 0} (piece : Piece A) (filled : piece.empty ≡ false) (apart 
 
   none_found : (found all : List A) (i j : Input) → ◌≡◌ {A = Option (List A × Input)} (Some (found, i)) (Some (all, j)) → Found found all i j
   none_found found all i j e =
-      let same = some_pair found all i j e in
+      let same = some_pair_parts found all i j e in
       record {
         items = [];
         is = sym same.0 ∙ sym (append-nil found);
-        took = subst (λ j. Took nothing i j) same.1 (record { tokens = []; rest = refl; at = sym (plus_none i.at); says = refl });
+        took = subst (λ j. Took nothing i j) same.1 (record { tokens = []; rest = refl; at = sym (add-zero i.at); says = refl });
       }
 
   abbrev turn : ℕ → List A → Bool → Reader (List A)
@@ -90,8 +83,8 @@ module _ {A : Type 0} (piece : Piece A) (filled : piece.empty ≡ false) (apart 
 
   read_none : (n : ℕ) (found : List A) (at : ℕ) → Reads n found [] at []
   unfolding each_from is_done
-  read_none zero found at = ap (λ found. Some (found, input at [])) (sym (append-nil found)) ∙ ap (λ place. Some (found ++ [], input place [])) (sym (plus_none at))
-  read_none (suc n) found at = ap (λ found. Some (found, input at [])) (sym (append-nil found)) ∙ ap (λ place. Some (found ++ [], input place [])) (sym (plus_none at))
+  read_none zero found at = ap (λ found. Some (found, input at [])) (sym (append-nil found)) ∙ ap (λ place. Some (found ++ [], input place [])) (sym (add-zero at))
+  read_none (suc n) found at = ap (λ found. Some (found, input at [])) (sym (append-nil found)) ∙ ap (λ place. Some (found ++ [], input place [])) (sym (add-zero at))
 
   read_next : (n : ℕ) (found : List A) (a : A) (items : List A) (at : ℕ) (before after : List Token) → piece.phrase a at before → begins piece.more after ≡ false
       → Reads n (found ++ a ∷ []) items (at + length before) after → Reads (suc n) found (a ∷ items) at (before ++ after)

@@ -1,14 +1,12 @@
 -- Pieces that choose between two pieces of one kind of value, and pieces with another phrase for the same tokens.
-use Rattle.std.proofs.Common.{◌≡◌, refl, sym, ◌∙◌, ap, ℕ, ◌+◌, Bool, true, false, ◌||◌, List, [], ◌∷◌, ◌++◌, length, Some, ◌⊎◌, inl, inr, if◌then◌else◌}
+use Rattle.std.proofs.Common.{◌≡◌, refl, sym, ◌∙◌, ap, ℕ, ◌+◌, Bool, true, false, ◌||◌, List, [], ◌++◌, length, Some, ◌⊎◌, inl, inr, if◌then◌else◌}
 use Rattle.std.proofs.lemmas.Bool.{or_left, or_right}
 use Rattle.ftn_tree.specs.declared.token.Token.{Token}
 use Rattle.ftn_tree.specs.declared.lexeme.Lexeme.{Lexeme}
-use Rattle.ftn_tree.specs.Lexemes.{lexeme_of}
 use Rattle.ftn_tree.specs.Phrases.{Phrase}
-use Rattle.expr_parse.specs.Input.{Input, input}
-use Rattle.expr_parse.proofs.Pieces.{Piece, Took, begins, begins_or}
+use Rattle.expr_parse.specs.steps.Input.{Input, input}
+use Rattle.expr_parse.proofs.Pieces.{Piece, Took, begins, begins_or, begins_left, begins_right}
 use Rattle.spec_parse.specs.steps.Choices.{choose}
-use Rattle.spec_parse.proofs.Choices.{begins_left, begins_right}
 
 module _ {A : Type 0} (piece : Piece A) (phrase : A → Phrase)
     (made : (a : A) (at : ℕ) (tokens : List Token) → piece.phrase a at tokens → phrase a at tokens)

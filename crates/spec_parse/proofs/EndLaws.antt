@@ -1,5 +1,5 @@
 -- END statements are read as they are written.
-use Rattle.std.proofs.Common.{◌≡◌, refl, ◌∙◌, ap, subst, ℕ, Bool, true, false, List, [], ◌∷◌, ◌++◌, Option, Some, None, codes}
+use Rattle.std.proofs.Common.{◌≡◌, refl, ◌∙◌, ap, subst, ℕ, Bool, true, false, List, [], Option, Some, None, codes}
 use Rattle.std.proofs.lemmas.List.{append-nil}
 use Rattle.std.specs.Str.{bytes_eq}
 use denote.Hole.Carrier
@@ -11,12 +11,12 @@ use Rattle.ftn_tree.specs.declared.parts.EndWord.TheVariants.{Program, Module, B
 use Rattle.ftn_tree.specs.declared.parts.Ending.{Ending}
 use Rattle.ftn_tree.specs.Phrases.{Phrase, ◌·◌, word, name, whether, maybe}
 use Rattle.ftn_tree.specs.UnitForms.{is_parted, end_text, end_words, end_of}
-use Rattle.expr_parse.specs.Input.{input, Reader, sees_word}
-use Rattle.expr_parse.specs.Combinators.{◌<$>◌}
+use Rattle.expr_parse.specs.steps.Input.{input, Reader, sees_word}
+use Rattle.expr_parse.specs.steps.Combinators.{◌<$>◌}
 use Rattle.spec_parse.specs.steps.Endings.{ending, parted_end, end_row}
 use Rattle.spec_parse.specs.declared.rows.Row.TheVariants as row
 use Rattle.spec_parse.specs.steps.Rows.{find_row, attribute_row, row_at_front}
-use Rattle.spec_parse.proofs.Regroup.{to_right, to_left, drop_end, add_end}
+use Rattle.ftn_tree.proofs.PhraseLaws.{to_right, to_left, drop_end, add_end}
 use Rattle.spec_parse.proofs.EndPieces.{spelled, ending_parts, ending_of, ending_piece, parted_parts}
 use Rattle.spec_parse.proofs.FirstWords.{alone_leads, phrase_leads}
 use Rattle.spec_parse.proofs.Seen.{Starts, starts_word, starts_first, shows, hides}

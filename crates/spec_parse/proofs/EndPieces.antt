@@ -11,7 +11,7 @@ use Rattle.ftn_tree.specs.declared.parts.Ending.{Ending}
 use Rattle.ftn_tree.specs.Lexemes.{lexeme_of, lexeme_by, is_word_at, is_text, same_lexeme}
 use Rattle.ftn_tree.specs.Phrases.{word}
 use Rattle.ftn_tree.specs.UnitForms.{end_text, is_parted}
-use Rattle.expr_parse.specs.Input.{Input}
+use Rattle.expr_parse.specs.steps.Input.{Input}
 use Rattle.expr_parse.proofs.Pieces.{Piece, seq, option, reread}
 use Rattle.expr_parse.proofs.AllKinds.{within}
 use Rattle.expr_parse.proofs.Tokens.{only, apart_none, name_piece, after_word}

@@ -7,7 +7,7 @@ use Rattle.ftn_tree.specs.declared.token.TokenKind.TheVariants as kinds
 use Rattle.ftn_tree.specs.declared.form.Form.{Form}
 use Rattle.ftn_tree.specs.Lexemes.{is_word, is_word_at, is_text}
 use Rattle.ftn_tree.specs.Phrases.{Phrase, ◌·◌, word}
-use Rattle.expr_parse.specs.Input.{input}
+use Rattle.expr_parse.specs.steps.Input.{input}
 use Rattle.spec_parse.specs.declared.rows.Row.{Row}
 use Rattle.spec_parse.specs.steps.Rows.{find_row, row_by, row_at_front, row_reader, read_by, statement}
 use Rattle.spec_parse.proofs.Wholes.{GivesForm}

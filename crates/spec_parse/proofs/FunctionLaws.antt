@@ -1,6 +1,8 @@
 -- FUNCTION statements are read as they are written.
-use Rattle.std.proofs.Common.{◌≡◌, refl, sym, ◌∙◌, ap, subst, ℕ, ◌+◌, Bool, true, false, ◌&&◌, List, [], ◌∷◌, ◌++◌, length, Option, Some, None, codes, if◌then◌else◌}
+use Rattle.std.proofs.Common.{◌≡◌, refl, sym, ◌∙◌, ap, subst, ℕ, ◌+◌, Bool, true, false, List, [], ◌∷◌, ◌++◌, length, Option, Some, None, codes, if◌then◌else◌}
 use Rattle.std.proofs.lemmas.List.{append-nil}
+use Rattle.std.proofs.lemmas.Option.{some_pair_parts}
+use Rattle.std.proofs.lemmas.Bool.{and_from}
 use denote.Hole.Carrier
 use Rattle.ftn_tree.specs.declared.token.Token.{Token}
 use Rattle.ftn_tree.specs.declared.form.Form.{Form, out-Form}
@@ -15,10 +17,10 @@ use Rattle.ftn_tree.specs.TypeForms.{type_text}
 use Rattle.ftn_tree.specs.Layers.{FormLayer}
 use Rattle.ftn_tree.specs.SpecificationForms.{declaration_at}
 use Rattle.ftn_tree.specs.UnitForms.{unit_form_at}
-use Rattle.expr_parse.specs.Input.{Input, input, Reader, Outcome, and_then, ◌>>◌, pure, finish, is_done, done_at}
+use Rattle.expr_parse.specs.steps.Input.{Input, input, Reader, Outcome, and_then, ◌>>◌, pure, finish, is_done, done_at}
 use Rattle.expr_parse.proofs.AllKinds.{apart}
 use Rattle.expr_parse.proofs.Operands.{ReadsExpressions}
-use Rattle.expr_parse.proofs.Pieces.{Took, Apart, begins, bind_some, some_pair, took_both, placed}
+use Rattle.expr_parse.proofs.Pieces.{Took, Apart, begins, bind_some, took_both}
 use Rattle.expr_parse.proofs.Tokens.{only, is_same, word_kind}
 use Rattle.spec_parse.specs.steps.Names.{dummies}
 use Rattle.spec_parse.specs.steps.Rows.{begins_function, typed_row}
@@ -26,7 +28,7 @@ use Rattle.spec_parse.specs.steps.Types.{type_spec}
 use Rattle.spec_parse.specs.steps.Declaring.{declare_from}
 use Rattle.spec_parse.specs.steps.Units.{function, function_parts, result_name}
 use Rattle.spec_parse.proofs.DeclareLaws.{declare_took}
-use Rattle.spec_parse.proofs.Regroup.{led_by, drop_none, add_none}
+use Rattle.ftn_tree.proofs.PhraseLaws.{led_by, drop_none, add_none, placed}
 use Rattle.spec_parse.proofs.TypePieces.{type_piece}
 use Rattle.spec_parse.proofs.UnitPieces as pieces
 use Rattle.spec_parse.proofs.Wholes.{Sound, GivesForm, row_sound, row_complete, image, made_of}
@@ -63,15 +65,11 @@ gives_rest : (ty : TypeSpec) (n : ℕ) (listed : List ℕ) (answer : Option ℕ)
 unfolding function function_parts result_name dummies
 gives_rest ty n listed answer at tokens says = row_complete pieces.function_parts (function_form (Some ty)) (n, (listed, answer)) at tokens says
 
-both_true : (a b : Bool) → a ≡ true → b ≡ true → (a && b) ≡ true
-both_true true b e f = f
-both_true false b e f = e
-
 is_function : (n : ℕ) (listed : List ℕ) (answer : Option ℕ) (at : ℕ) (tokens : List Token) → rest_of_function n listed answer at tokens → begins_function tokens ≡ true
 unfolding begins_function
 is_function n listed answer at tokens (b1, a1, s1, (t1, o1, i1), (b2, a2, s2, (t2, o2, i2), says)) =
     subst (λ tokens. begins_function tokens ≡ true) (sym (led_by t1 b1 a1 (t2 ∷ a2) tokens s1 o1 (led_by t2 b2 a2 a2 a1 s2 o2 refl)))
-    (both_true (is_word (codes "function") t1) (same_lexeme (lexeme_of t2) Word) i1 (is_same (lexeme_of t2) Word i2.1))
+    (and_from (is_word (codes "function") t1) (same_lexeme (lexeme_of t2) Word) i1 (is_same (lexeme_of t2) Word i2.1))
 
 begins_word : (n : ℕ) (listed : List ℕ) (answer : Option ℕ) (at : ℕ) (tokens : List Token) → rest_of_function n listed answer at tokens → begins (only Word) tokens ≡ true
 begins_word n listed answer at tokens (b1, a1, s1, (t1, o1, i1), says) =
@@ -89,7 +87,7 @@ ended : (made form : Form) (k j : Input) → and_then (finish k) (λ u. pure mad
 unfolding finish is_done
 ended made form k j e = by k.rest refl e where
   by : (rest : List Token) → k.rest ≡ rest → and_then (end_if (done_at rest) k) (λ u. pure made) ≡ Some (form, j) → (k.rest ≡ []) × (made ≡ form)
-  by [] is e = (is, (some_pair made form k j e).0)
+  by [] is e = (is, (some_pair_parts made form k j e).0)
   by (here ∷ rest) is e = absurd (cc e)
 
 took_all : (phrase : Form → Phrase) (made form : Form) (at : ℕ) (tokens : List Token) (k j : Input) → Took (phrase made) (input at tokens) k → and_then (finish k) (λ u. pure made) ≡ Some (form, j) → phrase form at tokens

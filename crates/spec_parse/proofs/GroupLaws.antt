@@ -1,7 +1,9 @@
 -- COMMON is read as it is written.
-use Rattle.std.proofs.Common.{◌≡◌, refl, sym, ◌∙◌, ap, subst, arith, ℕ, zero, suc, ◌+◌, ◌≤◌, Bool, true, false, ◌&&◌, not, List, [], ◌∷◌, ◌++◌, length, Option, Some, append_assoc, ◌⊎◌, inl, inr, codes, if◌then◌else◌}
+use Rattle.std.proofs.Common.{◌≡◌, refl, sym, ◌∙◌, ap, subst, arith, ℕ, zero, suc, ◌+◌, ◌≤◌, Bool, true, false, ◌&&◌, not, List, [], ◌∷◌, ◌++◌, length, Option, Some, append_assoc, ◌⊎◌, inl, inr, codes, if◌then◌else◌, add-zero}
 use Rattle.std.proofs.lemmas.List.{append-nil}
 use Rattle.std.proofs.lemmas.Grind.{common_steps}
+use Rattle.std.proofs.lemmas.Option.{some_pair_parts}
+use Rattle.std.proofs.lemmas.Bool.{and_left}
 use denote.Hole.Carrier
 use Rattle.ftn_tree.specs.declared.token.Token.{Token}
 use Rattle.ftn_tree.specs.declared.form.Form.{out-Form}
@@ -11,24 +13,23 @@ use Rattle.ftn_tree.specs.declared.parts.BlockName.{BlockName}
 use Rattle.ftn_tree.specs.declared.parts.BlockName.TheVariants.{Unwritten, Blank, Named}
 use Rattle.ftn_tree.specs.declared.parts.CommonGroup.{CommonGroup}
 use Rattle.ftn_tree.specs.declared.parts.CommonMember.{CommonMember}
-use Rattle.ftn_tree.specs.declared.lexeme.Lexeme.{Lexeme}
 use Rattle.ftn_tree.specs.declared.lexeme.Lexeme.TheVariants.{Word, Comma, Open}
 use Rattle.ftn_tree.specs.Lexemes.{lexeme_of, same_lexeme}
 use Rattle.ftn_tree.specs.Phrases.{Phrase, nothing, provided, ◌·◌, mark, whether, commas}
 use Rattle.ftn_tree.specs.UnitForms.{unit_form_at}
 use Rattle.ftn_tree.specs.SpecificationForms as form
 use Rattle.ftn_tree.specs.SpecificationForms.{declaration_at}
-use Rattle.expr_parse.specs.Input.{Input, input, Reader, pure, ◌>>=◌, sees, is_done, done_at, peek_second}
-use Rattle.expr_parse.specs.Combinators.{◌⊗◌}
-use Rattle.expr_parse.proofs.Pieces.{Piece, Took, Apart, begins, bind_some, bind_is, some_pair, took_both, placed, plus_none, seq}
+use Rattle.expr_parse.specs.steps.Input.{Input, input, Reader, pure, ◌>>=◌, sees, is_done, done_at, peek_second}
+use Rattle.expr_parse.specs.steps.Combinators.{◌⊗◌}
+use Rattle.expr_parse.proofs.Pieces.{Piece, Took, Apart, begins, bind_some, bind_is, took_both, seq, apart_from}
 use Rattle.expr_parse.proofs.AllKinds.{apart}
 use Rattle.expr_parse.proofs.Tokens.{only, after_word, is_same}
-use Rattle.expr_parse.proofs.Ends.{any}
+use Rattle.expr_parse.proofs.Ends.{any, no_rest}
 use Rattle.expr_parse.proofs.Operands.{ReadsExpressions}
 use Rattle.spec_parse.specs.steps.Blocks as spec
 use Rattle.spec_parse.specs.steps.Blocks.{members, goes_on, is_slash_at, first_group, later_group, groups_from, all_groups, groups, common}
 use Rattle.spec_parse.proofs.Flags.{flag}
-use Rattle.spec_parse.proofs.Regroup.{to_right, to_left, add_none, drop_none}
+use Rattle.ftn_tree.proofs.PhraseLaws.{to_right, to_left, add_none, drop_none, placed}
 use Rattle.spec_parse.proofs.Wholes.{Sound, GivesForm, row_sound, row_complete}
 use Rattle.spec_parse.proofs.Members.{is_slash, slash_is, Stops, members_sound, members_complete, members_named}
 use Rattle.spec_parse.proofs.Groups.{block_text, block_piece, block_begins, first_piece}
@@ -47,14 +48,6 @@ comma_no_open : Apart (only Comma) (only Open)
 unfolding same_lexeme
 comma_no_open = apart (only Comma) (only Open) refl
 
-apart_here : (one other : Lexeme → Bool) (tokens : List Token) → Apart one other → begins one tokens ≡ true → begins other tokens ≡ false
-apart_here one other [] apart e = absurd (cc e)
-apart_here one other (here ∷ tokens) apart e = apart (lexeme_of here) e
-
-left_false : (a b : Bool) → a ≡ false → (a && b) ≡ false
-left_false false b e = refl
-left_false true b e = absurd (cc e)
-
 right_false : (a b : Bool) → b ≡ true → (a && not b) ≡ false
 right_false a true e = by a where
   by : (a : Bool) → (a && false) ≡ false
@@ -65,11 +58,11 @@ right_false a false e = absurd (cc e)
 no_comma : (at : ℕ) (tokens : List Token) → begins (only Comma) tokens ≡ false → goes_on (input at tokens) ≡ false
 unfolding sees
 no_comma at [] e = refl
-no_comma at (here ∷ rest) e = left_false (same_lexeme (lexeme_of here) Comma) (not (is_slash_at (peek_second (input at (here ∷ rest))))) e
+no_comma at (here ∷ rest) e = and_left (same_lexeme (lexeme_of here) Comma) (not (is_slash_at (peek_second (input at (here ∷ rest))))) e
 
 -- no member follows a slash
 slash_stops : (tokens : List Token) → begins is_slash tokens ≡ true → Stops tokens
-slash_stops tokens e = (apart_here is_slash (only Open) tokens slash_no_open e, λ at. no_comma at tokens (apart_here is_slash (only Comma) tokens comma_no_slash e))
+slash_stops tokens e = (apart_from is_slash (only Open) tokens slash_no_open e, λ at. no_comma at tokens (apart_from is_slash (only Comma) tokens comma_no_slash e))
 
 slash_second : (comma : Token) (at : ℕ) (tokens : List Token) → begins is_slash tokens ≡ true → goes_on (input at (comma ∷ tokens)) ≡ false
 unfolding peek_second
@@ -123,7 +116,7 @@ module _ (laws : ReadsExpressions) where
     headed_sound i both j e =
         let (a, k, read, next) = bind_some (head.read i) (λ a. members >>= (λ all. pure (a, all))) both j e in
         let (all, l, read_all, gives) = bind_some (members k) (λ all. pure (a, all)) both j next in
-        let same = some_pair (a, all) both l j gives in
+        let same = some_pair_parts (a, all) both l j gives in
         let took = took_both (head.phrase a) (commas form.member all) i k l (head.sound i a k read) (members_sound laws k all l read_all) in
         subst (λ both. Took (head.phrase both.0 · commas form.member both.1) i j) same.0 (subst (λ j. Took (head.phrase a · commas form.member all) i j) same.1 took)
 
@@ -132,7 +125,7 @@ module _ (laws : ReadsExpressions) where
     headed_complete a all at tokens rest (before, after, split, says, says_members) stops =
         let place = input (at + length before) (after ++ rest) in
         let end = input ((at + length before) + length after) rest in
-        let stop = apart_here (only Word) head.more (after ++ rest) no_name (members_named laws all (at + length before) after rest says_members) in
+        let stop = apart_from (only Word) head.more (after ++ rest) no_name (members_named laws all (at + length before) after rest says_members) in
         let read = head.complete a at before (after ++ rest) says stop in
         let read_all = members_complete laws all (at + length before) after rest says_members stops in
         let ends = bind_is (members place) (λ all. pure (a, all)) all end (Some ((a, all), end)) read_all refl in
@@ -165,7 +158,7 @@ module _ (laws : ReadsExpressions) where
   unfolding first_group
   first_sound i g j e =
       let (both, k, read, gives) = bind_some ((first_piece.read ⊗ members) i) (λ both. pure (spec.first_of both)) g j e in
-      let same = some_pair (spec.first_of both) g k j gives in
+      let same = some_pair_parts (spec.first_of both) g k j gives in
       let took = headed_sound first_piece word_no_first i both k read in
       subst (λ g. Took (first_text g) i j) same.0 (subst (λ j. Took (first_text (spec.first_of both)) i j) same.1
       (record { tokens = took.tokens; rest = took.rest; at = took.at; says = (refl, add_none (form.block_name both.0 · commas form.member both.1) i.at took.tokens took.says) }))
@@ -189,7 +182,7 @@ module _ (laws : ReadsExpressions) where
   unfolding later_group
   later_sound i g j e =
       let (parts, k, read, gives) = bind_some ((later_head.read ⊗ members) i) (λ parts. pure (spec.later_of parts)) g j e in
-      let same = some_pair (spec.later_of parts) g k j gives in
+      let same = some_pair_parts (spec.later_of parts) g k j gives in
       let took = headed_sound later_head word_no_later i parts k read in
       subst (λ g. Took (later_text g) i j) same.0 (subst (λ j. Took (later_text (spec.later_of parts)) i j) same.1
       (record { tokens = took.tokens; rest = took.rest; at = took.at; says = written_group parts i.at took.tokens took.says }))
@@ -214,11 +207,11 @@ module _ (laws : ReadsExpressions) where
 
   none_found : (found all : List CommonGroup) (i j : Input) → ◌≡◌ {A = Option (List CommonGroup × Input)} (Some (found, i)) (Some (all, j)) → Found found all i j
   none_found found all i j e =
-      let same = some_pair found all i j e in
+      let same = some_pair_parts found all i j e in
       record {
         items = [];
         is = sym same.0 ∙ sym (append-nil found);
-        took = subst (λ j. Took nothing i j) same.1 (record { tokens = []; rest = refl; at = sym (plus_none i.at); says = refl });
+        took = subst (λ j. Took nothing i j) same.1 (record { tokens = []; rest = refl; at = sym (add-zero i.at); says = refl });
       }
 
   abbrev turn : ℕ → List CommonGroup → Bool → Reader (List CommonGroup)
@@ -244,8 +237,8 @@ module _ (laws : ReadsExpressions) where
 
   read_none : (n : ℕ) (found : List CommonGroup) (at : ℕ) → Reads n found [] at []
   unfolding groups_from is_done
-  read_none zero found at = ap (λ found. Some (found, input at [])) (sym (append-nil found)) ∙ ap (λ place. Some (found ++ [], input place [])) (sym (plus_none at))
-  read_none (suc n) found at = ap (λ found. Some (found, input at [])) (sym (append-nil found)) ∙ ap (λ place. Some (found ++ [], input place [])) (sym (plus_none at))
+  read_none zero found at = ap (λ found. Some (found, input at [])) (sym (append-nil found)) ∙ ap (λ place. Some (found ++ [], input place [])) (sym (add-zero at))
+  read_none (suc n) found at = ap (λ found. Some (found, input at [])) (sym (append-nil found)) ∙ ap (λ place. Some (found ++ [], input place [])) (sym (add-zero at))
 
   -- a group takes a token at least
   nonempty : (g : CommonGroup) (at : ℕ) (tokens rest : List Token) → later_text g at tokens → done_at (tokens ++ rest) ≡ false
@@ -308,10 +301,6 @@ module _ (laws : ReadsExpressions) where
       let (first, k, read, rest) = bind_some (first_group i) all_groups all j e in
       let found = groups_sound (length k.rest) (first ∷ []) all k j rest in
       all_taken first all found.items i k j found.is (first_sound i first k read) found.took
-
-  no_rest : (rest : List Token) → begins any rest ≡ false → rest ≡ []
-  no_rest [] e = refl
-  no_rest (here ∷ rest) e = absurd (cc e)
 
   same_length : (tokens : List Token) → length tokens ≤ length tokens
   same_length tokens = omega arith

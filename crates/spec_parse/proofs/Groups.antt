@@ -1,5 +1,6 @@
 -- COMMON is read as it is written.
-use Rattle.std.proofs.Common.{◌≡◌, refl, sym, ◌∙◌, ap, subst, ℕ, ◌+◌, true, false, List, [], ◌∷◌, ◌++◌, length, Option, Some, None, ◌⊎◌, inl, inr, if◌then◌else◌}
+use Rattle.std.proofs.Common.{◌≡◌, refl, sym, ◌∙◌, ap, subst, ℕ, ◌+◌, true, false, List, [], ◌∷◌, ◌++◌, length, Option, Some, None, ◌⊎◌, inl, inr, if◌then◌else◌, add-zero}
+use Rattle.std.proofs.lemmas.Option.{some_pair_parts}
 use Rattle.ftn_tree.specs.declared.token.Token.{Token}
 use Rattle.ftn_tree.specs.declared.parts.BlockName.{BlockName}
 use Rattle.ftn_tree.specs.declared.parts.BlockName.TheVariants.{Unwritten, Blank, Named}
@@ -8,14 +9,13 @@ use Rattle.ftn_tree.specs.declared.lexeme.Lexeme.TheVariants.{Divide, Concat}
 use Rattle.ftn_tree.specs.Lexemes.{lexeme_of, same_lexeme}
 use Rattle.ftn_tree.specs.Phrases.{Phrase, nothing, never, ◌·◌, mark, mark_at, name}
 use Rattle.ftn_tree.specs.SpecificationForms as form
-use Rattle.ftn_tree.specs.SpecificationForms.{declaration_at}
-use Rattle.expr_parse.specs.Input.{Input, input, and_then, pure, sees, peek}
-use Rattle.expr_parse.specs.Combinators.{◌<$>◌}
-use Rattle.expr_parse.proofs.Pieces.{Piece, Took, Apart, begins, some_pair, plus_none, seq, reread}
+use Rattle.expr_parse.specs.steps.Input.{Input, input, and_then, pure, sees, peek}
+use Rattle.expr_parse.specs.steps.Combinators.{◌<$>◌}
+use Rattle.expr_parse.proofs.Pieces.{Piece, Took, Apart, begins, seq, reread}
 use Rattle.expr_parse.proofs.AllKinds.{apart, within}
 use Rattle.expr_parse.proofs.Tokens.{only, none_of, apart_none, mark_piece, name_piece, before_mark, bare_made, bare_back}
 use Rattle.spec_parse.specs.steps.Blocks as spec
-use Rattle.spec_parse.specs.steps.Blocks.{rest_of_block, block, first_block, members, goes_on, sees_slash, is_slash_at, first_group, later_group, groups_from, all_groups, groups, common}
+use Rattle.spec_parse.specs.steps.Blocks.{rest_of_block, block, first_block, sees_slash}
 use Rattle.spec_parse.proofs.Choices.{choice}
 use Rattle.spec_parse.proofs.Seen.{seen, unseen}
 use Rattle.spec_parse.proofs.TypePieces.{itself}
@@ -89,13 +89,13 @@ block_piece = reread block_choice block block_read
 
 nothing_sound : (i : Input) (u : Unit {0}) (j : Input) → pure {A = Unit {0}} tt i ≡ Some (u, j) → Took nothing i j
 nothing_sound i u j e =
-    let same = some_pair {A = Unit {0}} tt u i j e in
-    subst (λ j. Took nothing i j) same.1 (record { tokens = []; rest = refl; at = sym (plus_none i.at); says = refl })
+    let same = some_pair_parts {A = Unit {0}} tt u i j e in
+    subst (λ j. Took nothing i j) same.1 (record { tokens = []; rest = refl; at = sym (add-zero i.at); says = refl })
 
 nothing_complete : (u : Unit {0}) (at : ℕ) (tokens rest : List Token) → nothing at tokens → begins none_of rest ≡ false → pure {A = Unit {0}} tt (input at (tokens ++ rest)) ≡ Some (u, input (at + length tokens) rest)
 nothing_complete u at tokens rest says stops =
     subst (λ tokens. pure {A = Unit {0}} tt (input at (tokens ++ rest)) ≡ Some (u, input (at + length tokens) rest)) (sym says)
-    (ap (λ place. Some (tt, input place rest)) (sym (plus_none at)))
+    (ap (λ place. Some (tt, input place rest)) (sym (add-zero at)))
 
 pub nothing_begun : (u : Unit {0}) (at : ℕ) (tokens : List Token) → nothing at tokens → (begins none_of tokens ≡ true) ⊎ ((tokens ≡ []) × (true ≡ true))
 nothing_begun u at tokens says = inr (says, refl)

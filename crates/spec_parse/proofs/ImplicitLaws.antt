@@ -7,7 +7,7 @@ use Rattle.ftn_tree.specs.declared.form.Form.TheVariants as form
 use Rattle.ftn_tree.specs.declared.parts.LetterGroup.{LetterGroup}
 use Rattle.ftn_tree.specs.Phrases.{◌·◌, word, commas}
 use Rattle.ftn_tree.specs.UnitForms as written
-use Rattle.expr_parse.specs.Input.{sees_word}
+use Rattle.expr_parse.specs.steps.Input.{sees_word}
 use Rattle.expr_parse.proofs.Pieces.{Piece}
 use Rattle.expr_parse.proofs.Tokens.{none_of, word_piece, word_made, word_back, after_word}
 use Rattle.spec_parse.specs.steps.Implicits.{given_number, star_length, len_given, paren_length, implicit_length, implicit_character, implicit_type, letter_range, listed_ranges, ranges, plain_group, typed_group, letter_group, groups, groups_or_none, implicit}

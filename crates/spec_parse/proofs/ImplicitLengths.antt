@@ -18,7 +18,7 @@ use Rattle.ftn_tree.specs.Grammar.{expr}
 use Rattle.ftn_tree.specs.Phrases.{Phrase, ◌·◌, mark, never, provided, in_parens}
 use Rattle.ftn_tree.specs.TypeForms as text
 use Rattle.ftn_tree.specs.UnitForms.{is_whole_at, is_whole_selector}
-use Rattle.expr_parse.specs.Input.{sees}
+use Rattle.expr_parse.specs.steps.Input.{sees}
 use Rattle.expr_parse.proofs.AllKinds.{apart}
 use Rattle.expr_parse.proofs.Pieces.{Piece, Apart, mapped}
 use Rattle.expr_parse.proofs.Tokens.{only, none_of, apart_none, after_word, after_mark, before_mark, parens}

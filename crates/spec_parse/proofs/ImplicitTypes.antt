@@ -1,6 +1,7 @@
 -- Types and groups of letters in IMPLICIT statements, as pieces.
-use Rattle.std.proofs.Common.{◌≡◌, refl, sym, ◌∙◌, ap, subst, ℕ, ◌+◌, Bool, true, false, not, ◌||◌, ◌&&◌, List, [], ◌∷◌, ◌++◌, length, Option, Some, None, ◌⊎◌, inl, inr, codes, append_assoc}
+use Rattle.std.proofs.Common.{◌≡◌, refl, sym, ◌∙◌, ap, subst, ℕ, ◌+◌, Bool, true, false, not, ◌&&◌, List, [], ◌∷◌, ◌++◌, length, Option, Some, None, ◌⊎◌, inl, inr, codes, append_assoc}
 use Rattle.std.specs.Str.{bytes_eq}
+use Rattle.std.proofs.lemmas.Bool.{and_from, and_left, and_right, or_from, or_left, or_right}
 use Rattle.ftn_tree.specs.declared.token.Token.{Token}
 use Rattle.ftn_tree.specs.declared.expr.Expr.{Expr, out-Expr}
 use Rattle.ftn_tree.specs.declared.lexeme.Lexeme.{Lexeme}
@@ -17,8 +18,8 @@ use Rattle.ftn_tree.specs.Lexemes.{lexeme_of, is_word, is_word_at, is_text, same
 use Rattle.ftn_tree.specs.Phrases.{word, commas}
 use Rattle.ftn_tree.specs.TypeForms as text
 use Rattle.ftn_tree.specs.UnitForms as written
-use Rattle.ftn_tree.specs.UnitForms.{is_whole_at, is_whole_selector}
-use Rattle.expr_parse.specs.Input.{Input, input, sees_word}
+use Rattle.ftn_tree.specs.UnitForms.{is_whole_at}
+use Rattle.expr_parse.specs.steps.Input.{Input, input, sees_word}
 use Rattle.expr_parse.proofs.AllKinds.{apart}
 use Rattle.expr_parse.proofs.Lists.{list}
 use Rattle.expr_parse.proofs.Pieces.{Piece, Apart, begins, seq}
@@ -28,7 +29,7 @@ use Rattle.spec_parse.proofs.Either.{either, rephrased}
 use Rattle.spec_parse.proofs.FirstWords.{text_is}
 use Rattle.spec_parse.proofs.ImplicitLengths.{length_piece, length_made, length_back, given_piece, paren_text}
 use Rattle.spec_parse.proofs.Letters.{ranges_piece}
-use Rattle.spec_parse.proofs.Regroup.{led_by, drop_end, add_end}
+use Rattle.ftn_tree.proofs.PhraseLaws.{led_by, drop_end, add_end}
 use Rattle.spec_parse.proofs.Seen.{Starts, starts_word_at, starts_first, shows, hides}
 use Rattle.spec_parse.proofs.Wholes.{made_of, image}
 use Rattle.spec_parse.proofs.WordKinds.{is_word_kind}
@@ -127,27 +128,11 @@ plain_of all = group_of (Known (Character None)) all
 abbrev pub typed_of : ImplicitType × List LetterRange → LetterGroup
 typed_of both = group_of both.0 both.1
 
-pub both_true : (a b : Bool) → a ≡ true → b ≡ true → (a && b) ≡ true
-both_true true b e f = f
-both_true false b e f = e
-
-pub first_false : (a b : Bool) → a ≡ false → (a && b) ≡ false
-first_false false b e = refl
-first_false true b e = absurd (cc e)
-
-pub second_false : (a b : Bool) → b ≡ false → (a && b) ≡ false
-second_false true b e = e
-second_false false b e = refl
-
 pub no_longer : (byte : ℕ) (found : Bool) → bytes_eq (byte ∷ []) (codes "len") ≡ found → found ≡ false
 no_longer byte true is = let same : byte ∷ [] ≡ codes "len" = text_is (byte ∷ []) (codes "len") is in absurd (too_short byte same) where
   too_short : (byte : ℕ) → byte ∷ [] ≡ codes "len" → ⊥
   too_short byte same = cc same
 no_longer byte false is = refl
-
-pub either_false : (a b : Bool) → a ≡ false → b ≡ false → (a || b) ≡ false
-either_false false b e f = f
-either_false true b e f = e
 
 pub word_no_whole : (kind : Lexeme) → kind ≡ Word → same_lexeme kind Whole ≡ false
 unfolding same_lexeme
@@ -159,7 +144,7 @@ times_no_open kind is = ap (λ kind. same_lexeme kind Open) is
 
 -- a letter begins no length
 pub letter_no_length : (here : Token) (byte : ℕ) → lexeme_of here ≡ Word → here.value ≡ byte ∷ [] → is_length here ≡ false
-letter_no_length here byte is value_is = either_false (same_lexeme (lexeme_of here) Whole) (is_word (codes "len") here) (word_no_whole (lexeme_of here) is)
+letter_no_length here byte is value_is = or_from (same_lexeme (lexeme_of here) Whole) (is_word (codes "len") here) (word_no_whole (lexeme_of here) is)
     (ap (λ kind. is_word_at kind here.value (codes "len")) (is_word_kind here.kind here.value is) ∙ ap (λ value. is_text value (codes "len")) value_is
     ∙ no_longer byte (bytes_eq (byte ∷ []) (codes "len")) refl)
 
@@ -183,8 +168,8 @@ commas_first (range ∷ all) at tokens (before, after, split, says, says_more) =
 pub plain_of_three : (one two three : Token) (rest : List Token) → is_word (codes "character") one ≡ true → lexeme_of two ≡ Open → is_length three ≡ false → is_plain (one ∷ two ∷ three ∷ rest) ≡ true
 unfolding is_plain
 plain_of_three one two three rest is opens none =
-    both_true (is_word (codes "character") one) (same_lexeme (lexeme_of two) Open && not (is_length three)) is
-    (both_true (same_lexeme (lexeme_of two) Open) (not (is_length three)) (is_same (lexeme_of two) Open opens) (ap not none))
+    and_from (is_word (codes "character") one) (same_lexeme (lexeme_of two) Open && not (is_length three)) is
+    (and_from (same_lexeme (lexeme_of two) Open) (not (is_length three)) (is_same (lexeme_of two) Open opens) (ap not none))
 
 pub plain_is : (all : List LetterRange) (at : ℕ) (tokens rest : List Token) → plain_parts.phrase all at tokens → is_plain (tokens ++ rest) ≡ true
 plain_is all at tokens rest (b1, a1, s1, (t1, o1, i1), (b2, a2, s2, (t2, o2, i2), (b3, a3, s3, says, closes))) =
@@ -198,18 +183,18 @@ unfolding is_plain sees_word
 not_character at [] e = refl
 not_character at (one ∷ []) e = refl
 not_character at (one ∷ two ∷ []) e = refl
-not_character at (one ∷ two ∷ three ∷ rest) e = first_false (is_word (codes "character") one) (same_lexeme (lexeme_of two) Open && not (is_length three)) e
+not_character at (one ∷ two ∷ three ∷ rest) e = and_left (is_word (codes "character") one) (same_lexeme (lexeme_of two) Open && not (is_length three)) e
 
 pub not_open : (one two : Token) (rest : List Token) → same_lexeme (lexeme_of two) Open ≡ false → is_plain (one ∷ two ∷ rest) ≡ false
 unfolding is_plain
 not_open one two [] e = refl
 not_open one two (three ∷ rest) e =
-    second_false (is_word (codes "character") one) (same_lexeme (lexeme_of two) Open && not (is_length three)) (first_false (same_lexeme (lexeme_of two) Open) (not (is_length three)) e)
+    and_right (is_word (codes "character") one) (same_lexeme (lexeme_of two) Open && not (is_length three)) (and_left (same_lexeme (lexeme_of two) Open) (not (is_length three)) e)
 
 pub length_third : (one two three : Token) (rest : List Token) → is_length three ≡ true → is_plain (one ∷ two ∷ three ∷ rest) ≡ false
 unfolding is_plain
 length_third one two three rest e =
-    second_false (is_word (codes "character") one) (same_lexeme (lexeme_of two) Open && not (is_length three)) (second_false (same_lexeme (lexeme_of two) Open) (not (is_length three)) (ap not e))
+    and_right (is_word (codes "character") one) (same_lexeme (lexeme_of two) Open && not (is_length three)) (and_right (same_lexeme (lexeme_of two) Open) (not (is_length three)) (ap not e))
 
 pub starts_no_plain : (word_text : List ℕ) (at : ℕ) (before after rest tokens : List Token) → bytes_eq word_text (codes "character") ≡ false → Starts word_text before → tokens ≡ before ++ after → is_plain (tokens ++ rest) ≡ false
 starts_no_plain word_text at before after rest tokens apart starts split =
@@ -223,21 +208,13 @@ pub record FirstLength (tokens : List Token) : Type 0 where
   pub split : tokens ≡ here ∷ after
   pub is : is_length here ≡ true
 
-pub left_true : (a b : Bool) → a ≡ true → (a || b) ≡ true
-left_true true b e = refl
-left_true false b e = absurd (cc e)
-
-pub right_true : (a b : Bool) → b ≡ true → (a || b) ≡ true
-right_true true b e = refl
-right_true false b e = e
-
 pub whole_first : (tokens : List Token) → begins (only Whole) tokens ≡ true → FirstLength tokens
 whole_first [] e = absurd (cc e)
-whole_first (here ∷ rest) e = record { here = here; after = rest; split = refl; is = left_true (same_lexeme (lexeme_of here) Whole) (is_word (codes "len") here) e }
+whole_first (here ∷ rest) e = record { here = here; after = rest; split = refl; is = or_left (same_lexeme (lexeme_of here) Whole) (is_word (codes "len") here) e }
 
 pub length_first : (has_word : Bool) (found : Expr) (at : ℕ) (tokens : List Token) → is_whole_at (out-Expr found) ≡ true → text.paren_length has_word (Given found) at tokens → FirstLength tokens
 length_first true found at tokens passes (before, after, split, (here, alone, is), says) =
-    record { here = here; after = after; split = led_by here before after after tokens split alone refl; is = right_true (same_lexeme (lexeme_of here) Whole) (is_word (codes "len") here) is }
+    record { here = here; after = after; split = led_by here before after after tokens split alone refl; is = or_right (same_lexeme (lexeme_of here) Whole) (is_word (codes "len") here) is }
 length_first false found at tokens passes says = by (given_piece.begun found at tokens (passes, says)) where
   by : (begins given_piece.first tokens ≡ true) ⊎ ((tokens ≡ []) × (false ≡ true)) → FirstLength tokens
   by (inl e) = whole_first tokens e

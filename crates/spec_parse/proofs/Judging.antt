@@ -1,57 +1,23 @@
--- What is answered of whole statements.
-use Rattle.std.proofs.Common.{◌≡◌, refl, sym, ◌∙◌, ap, subst, ℕ, ◌+◌, Bool, true, false, List, [], length, Some, None, Ok, Err, if◌then◌else◌}
-use Rattle.std.specs.Prelude.{IsTrue, ◌↔◌}
+-- What fits all tokens of a statement, from the laws of its reader.
+use Rattle.std.proofs.Common.{◌≡◌, sym, ◌∙◌, ℕ, ◌+◌, false, List, [], length, Result, Ok, Err, true≢false}
+use Rattle.std.proofs.lemmas.Option.{some_pair_parts}
 use Rattle.ftn_tree.specs.declared.token.Token.{Token}
 use Rattle.ftn_tree.specs.declared.form.Form.{Form}
-use Rattle.ftn_tree.specs.Assignments.{IsAssignment}
-use Rattle.ftn_tree.specs.Misfits.{IsDeep, is_outside}
+use Rattle.ftn_tree.specs.Assignments.{is_assignment}
 use Rattle.ftn_tree.specs.Specifications.{is_specification}
-use Rattle.expr_parse.specs.declared.fault.StatementFault.{StatementFault}
-use Rattle.expr_parse.specs.declared.fault.StatementFault.TheVariants.{NotAStatement, OutOfProfile, TooDeep}
-use Rattle.expr_parse.specs.Input.{Input, input}
-use Rattle.expr_parse.specs.Exact.{FitsNone, IsExact, misfit}
-use Rattle.expr_parse.proofs.Deep.{decided_deep, decided_shallow}
-use Rattle.expr_parse.proofs.Pieces.{some_pair}
+use Rattle.ftn_tree.proofs.AssignmentLaws.{told_assignment}
+use Rattle.expr_parse.specs.declared.fault.Misfit.{Misfit}
+use Rattle.expr_parse.specs.declared.fault.Misfit.TheVariants as misfit
+use Rattle.expr_parse.specs.steps.Input.{Input, input, Gives}
+use Rattle.expr_parse.specs.Exact.{IsFitting}
 use Rattle.spec_parse.specs.steps.Rows.{statement}
 use Rattle.spec_parse.proofs.StatementLaws.{statement_sound, statement_reads}
 
-fault_of : (at : ℕ) (tokens : List Token) → FitsNone is_specification at tokens → IsExact is_specification at tokens (Err (misfit tokens))
-fault_of at tokens none = by (is_outside tokens) refl where
-  by : (outside : Bool) → is_outside tokens ≡ outside → IsExact is_specification at tokens (Err (if outside then OutOfProfile else NotAStatement))
-  by true outside = (none, outside)
-  by false outside = (none, outside)
-
--- a call whose cursor is at these tokens, all of them
-module _ (at : ℕ) (tokens : List Token) (cursor : Input) (all : List Token) (deep : Bool)
-    (begins_at : cursor ≡ input at tokens) (rest_is : all ≡ cursor.rest) (decided : IsTrue deep ↔ IsDeep all) where
-  all_is : all ≡ tokens
-  all_is = rest_is ∙ ap (λ (i : Input). i.rest) begins_at
-
-  pub answer_deep : deep ≡ true → IsExact is_specification at tokens (Err TooDeep)
-  answer_deep e = subst IsDeep all_is (decided_deep all deep decided e)
-
-  shallow : deep ≡ false → IsDeep tokens → ⊥
-  shallow e = subst (λ row. IsDeep row → ⊥) all_is (decided_shallow all deep decided e)
-
-  told : (fault : StatementFault) → fault ≡ misfit all → FitsNone is_specification at tokens → IsExact is_specification at tokens (Err fault)
-  told fault is none = subst (λ fault. IsExact is_specification at tokens (Err fault)) (sym (is ∙ ap misfit all_is)) (fault_of at tokens none)
-
-  -- an assignment is no specification
-  pub answer_assignment : (fault : StatementFault) → deep ≡ false → IsAssignment all → fault ≡ misfit all → IsExact is_specification at tokens (Err fault)
-  answer_assignment fault e assigns is = told fault is (shallow e, λ form says. says.0 (subst IsAssignment all_is assigns))
-
-  no_assignment : (IsAssignment all → ⊥) → IsAssignment tokens → ⊥
-  no_assignment other = subst (λ row. IsAssignment row → ⊥) all_is other
-
-  pub answer_read : (form : Form) (j : Input) → deep ≡ false → (IsAssignment all → ⊥) → statement cursor ≡ Some (form, j) → IsExact is_specification at tokens (Ok form)
-  answer_read form j e other read =
-      let gives = sym (ap statement begins_at) ∙ read in (
-        shallow e,
-        (no_assignment other, statement_sound at tokens form j gives),
-        λ found says. (some_pair found form (input (at + length tokens) []) j (sym (statement_reads found at tokens says.1) ∙ gives)).0,
-      )
-
-  pub answer_misfit : (fault : StatementFault) → deep ≡ false → statement cursor ≡ None → fault ≡ misfit all → IsExact is_specification at tokens (Err fault)
-  answer_misfit fault e read is =
-      let gives = sym (ap statement begins_at) ∙ read in
-      told fault is (shallow e, λ form says. absurd (cc (sym (statement_reads form at tokens says.1) ∙ gives)))
+-- what is read of tokens that are no assignment is the one that fits, and where nothing is read nothing fits
+pub fitting : (at : ℕ) (tokens : List Token) (result : Result Form Misfit) (new : Input) → is_assignment tokens ≡ false → Gives (statement (input at tokens)) result new → IsFitting is_specification at tokens result
+fitting at tokens (Ok form) new other e = (
+  (λ assigns. true≢false (sym (told_assignment tokens assigns) ∙ other), statement_sound at tokens form new e),
+  λ found says. (some_pair_parts found form (input (at + length tokens) []) new (sym (statement_reads found at tokens says.1) ∙ e)).0,
+)
+fitting at tokens (Err misfit.NoFit) new other e = λ form says. absurd (cc (sym (statement_reads form at tokens says.1) ∙ e))
+fitting at tokens (Err misfit.NoMemory) new other e = tt

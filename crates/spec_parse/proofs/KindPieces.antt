@@ -1,6 +1,7 @@
 -- Attributes of all kinds are read as they are written.
-use Rattle.std.proofs.Common.{◌≡◌, refl, ◌∙◌, ap, ℕ, Bool, true, false, ◌||◌, List, ◌++◌, ◌⊎◌, inl, inr, codes, if◌then◌else◌}
+use Rattle.std.proofs.Common.{◌≡◌, refl, ◌∙◌, ap, ℕ, true, false, ◌||◌, List, ◌++◌, ◌⊎◌, inl, inr, codes, if◌then◌else◌}
 use Rattle.std.specs.Str.{bytes_eq}
+use Rattle.std.proofs.lemmas.Bool.{or_left, or_right, or_from}
 use Rattle.ftn_tree.specs.declared.token.Token.{Token}
 use Rattle.ftn_tree.specs.declared.parts.BoundPair.{BoundPair}
 use Rattle.ftn_tree.specs.declared.parts.AccessWord.{AccessWord}
@@ -13,8 +14,8 @@ use Rattle.ftn_tree.specs.declared.parts.AttributeKind.{AttributeKind}
 use Rattle.ftn_tree.specs.declared.parts.AttributeKind.TheVariants as attr
 use Rattle.ftn_tree.specs.Phrases.{Phrase, never, ◌·◌, word, word_at, in_parens}
 use Rattle.ftn_tree.specs.SpecificationForms as form
-use Rattle.expr_parse.specs.Input.{Input, input, Reader, sees_word, and_then, pure}
-use Rattle.expr_parse.specs.Combinators.{◌<$>◌}
+use Rattle.expr_parse.specs.steps.Input.{Input, input, Reader, sees_word, and_then, pure}
+use Rattle.expr_parse.specs.steps.Combinators.{◌<$>◌}
 use Rattle.expr_parse.proofs.Pieces.{Piece, reread, mapped}
 use Rattle.expr_parse.proofs.Tokens.{none_of, word_piece, word_made, word_back, after_word}
 use Rattle.expr_parse.proofs.Operands.{ReadsExpressions}
@@ -26,23 +27,11 @@ use Rattle.spec_parse.proofs.Seen.{Starts, starts_word, starts_word_at, starts_f
 use Rattle.spec_parse.proofs.BoundPieces.{bounds_piece}
 use Rattle.spec_parse.proofs.AttributePieces.{access_piece, procedure_piece, paren_mode_piece}
 
-either_left : (a b : Bool) → a ≡ true → (a || b) ≡ true
-either_left true b e = refl
-either_left false b e = absurd (cc e)
-
-either_right : (a b : Bool) → b ≡ true → (a || b) ≡ true
-either_right true b e = refl
-either_right false b e = e
-
-neither : (a b : Bool) → a ≡ false → b ≡ false → (a || b) ≡ false
-neither false b e f = f
-neither true b e f = absurd (cc e)
-
 -- tokens that begin with a word show neither of two others
 hides_both : (text one other : List ℕ) (at : ℕ) (tokens rest : List Token) → bytes_eq text one ≡ false → bytes_eq text other ≡ false → Starts text tokens
     → (sees_word one (input at (tokens ++ rest)) || sees_word other (input at (tokens ++ rest))) ≡ false
 hides_both text one other at tokens rest no_one no_other starts =
-    neither (sees_word one (input at (tokens ++ rest))) (sees_word other (input at (tokens ++ rest))) (hides text one at tokens rest no_one starts) (hides text other at tokens rest no_other starts)
+    or_from (sees_word one (input at (tokens ++ rest))) (sees_word other (input at (tokens ++ rest))) (hides text one at tokens rest no_one starts) (hides text other at tokens rest no_other starts)
 
 -- ---- PARAMETER and SAVE
 
@@ -92,9 +81,9 @@ some_back _ at tokens says = absurd says
 
 pub is_procedure : (a : ProcedureWord) (at : ℕ) (tokens rest : List Token) → word (form.procedure_word a) at tokens → sees_procedure (input at (tokens ++ rest)) ≡ true
 is_procedure External at tokens rest says =
-    either_left (sees_word (codes "external") (input at (tokens ++ rest))) (sees_word (codes "intrinsic") (input at (tokens ++ rest))) (shows (codes "external") at tokens rest (starts_word (codes "external") at tokens says))
+    or_left (sees_word (codes "external") (input at (tokens ++ rest))) (sees_word (codes "intrinsic") (input at (tokens ++ rest))) (shows (codes "external") at tokens rest (starts_word (codes "external") at tokens says))
 is_procedure Intrinsic at tokens rest says =
-    either_right (sees_word (codes "external") (input at (tokens ++ rest))) (sees_word (codes "intrinsic") (input at (tokens ++ rest))) (shows (codes "intrinsic") at tokens rest (starts_word (codes "intrinsic") at tokens says))
+    or_right (sees_word (codes "external") (input at (tokens ++ rest))) (sees_word (codes "intrinsic") (input at (tokens ++ rest))) (shows (codes "intrinsic") at tokens rest (starts_word (codes "intrinsic") at tokens says))
 
 pub no_procedure : (b : AttributeKind) (at : ℕ) (tokens rest : List Token) → plain_text b at tokens → sees_procedure (input at (tokens ++ rest)) ≡ false
 no_procedure attr.Parameter at tokens rest says = hides_both (codes "parameter") (codes "external") (codes "intrinsic") at tokens rest refl refl (starts_word (codes "parameter") at tokens says)
@@ -130,9 +119,9 @@ word_text_back _ at tokens says = absurd says
 
 pub is_access : (a : AccessWord) (at : ℕ) (tokens rest : List Token) → word (form.access_word a) at tokens → sees_access (input at (tokens ++ rest)) ≡ true
 is_access Public at tokens rest says =
-    either_left (sees_word (codes "public") (input at (tokens ++ rest))) (sees_word (codes "private") (input at (tokens ++ rest))) (shows (codes "public") at tokens rest (starts_word (codes "public") at tokens says))
+    or_left (sees_word (codes "public") (input at (tokens ++ rest))) (sees_word (codes "private") (input at (tokens ++ rest))) (shows (codes "public") at tokens rest (starts_word (codes "public") at tokens says))
 is_access Private at tokens rest says =
-    either_right (sees_word (codes "public") (input at (tokens ++ rest))) (sees_word (codes "private") (input at (tokens ++ rest))) (shows (codes "private") at tokens rest (starts_word (codes "private") at tokens says))
+    or_right (sees_word (codes "public") (input at (tokens ++ rest))) (sees_word (codes "private") (input at (tokens ++ rest))) (shows (codes "private") at tokens rest (starts_word (codes "private") at tokens says))
 
 no_access_word : (a : ProcedureWord) (at : ℕ) (tokens rest : List Token) → word (form.procedure_word a) at tokens → sees_access (input at (tokens ++ rest)) ≡ false
 no_access_word External at tokens rest says = hides_both (codes "external") (codes "public") (codes "private") at tokens rest refl refl (starts_word (codes "external") at tokens says)

@@ -1,6 +1,8 @@
 -- Whole numbers, and LEN before a length.
-use Rattle.std.proofs.Common.{◌≡◌, refl, sym, ◌∙◌, ap, subst, arith, ℕ, ◌+◌, ℤ, Bool, true, false, ◌&&◌, List, [], ◌∷◌, ◌++◌, length, Some, None, ◌⊎◌, inl, inr, codes}
+use Rattle.std.proofs.Common.{◌≡◌, refl, sym, ◌∙◌, ap, subst, arith, ℕ, ◌+◌, ℤ, Bool, true, false, List, [], ◌∷◌, ◌++◌, length, Some, None, ◌⊎◌, inl, inr, codes}
 use Rattle.std.proofs.lemmas.Grind.{common_steps}
+use Rattle.std.proofs.lemmas.Option.{some_pair_parts}
+use Rattle.std.proofs.lemmas.Bool.{and_left, and_right, and_from}
 use denote.Hole.Carrier
 use Rattle.ftn_tree.specs.declared.token.Token.{Token}
 use Rattle.ftn_tree.specs.declared.expr.Expr.{Expr, out-Expr}
@@ -12,12 +14,13 @@ use Rattle.ftn_tree.specs.declared.lexeme.Lexeme.{Lexeme}
 use Rattle.ftn_tree.specs.declared.lexeme.Lexeme.TheVariants.{Word, Whole, Open, Times, Equals}
 use Rattle.ftn_tree.specs.Lexemes.{lexeme_of, same_lexeme, is_word}
 use Rattle.ftn_tree.specs.declared.expr.Expr.TheFolds.{fold-roll-Expr}
-use Rattle.ftn_tree.specs.Trees.{Tree, Section, whole, refer, no_args, no_section, tree_of, tree_step, part_step}
+use Rattle.ftn_tree.specs.Trees.{Tree, Section, whole, refer, no_args, no_section, tree_step, part_step}
 use Rattle.ftn_tree.specs.Phrases.{Phrase}
 use Rattle.ftn_tree.specs.Grammar.{expr, Spells}
 use Rattle.ftn_tree.specs.TypeForms as form
-use Rattle.expr_parse.specs.Input.{input, sees_word, peek_second}
-use Rattle.expr_parse.proofs.Pieces.{Apart, begins, some_pair}
+use Rattle.ftn_tree.proofs.Inverse.{tree_whole, tree_refer}
+use Rattle.expr_parse.specs.steps.Input.{input, sees_word, peek_second}
+use Rattle.expr_parse.proofs.Pieces.{Apart, begins}
 use Rattle.expr_parse.proofs.AllKinds.{apart}
 use Rattle.expr_parse.proofs.Tokens.{only, is_same, same_is}
 use Rattle.expr_parse.proofs.Operands.{ReadsExpressions, starts, goes_on, begun_expr}
@@ -53,12 +56,6 @@ times_no_word = apart (only Times) (only Word) refl
 
 -- ---- whole numbers
 
-tree_whole : (number : ℕ) (value : ℤ) → tree_of (made.Whole number value) ≡ whole number value
-tree_whole number value = ap tree_of (sym (made.rolls-Whole number value)) ∙ fold-roll-Expr Tree Section tree_step part_step (Expr-F.Whole number value)
-
-tree_name : (number : ℕ) → tree_of (made.Refer number None None) ≡ refer number no_args no_section
-tree_name number = ap tree_of (sym (made.rolls-Refer number None None)) ∙ fold-roll-Expr Tree Section tree_step part_step (Expr-F.Refer number None None)
-
 spells_whole : (number : ℕ) (value : ℤ) (level at : ℕ) (tokens : List Token) → Spells (whole number value) level at tokens → form.whole_number number value at tokens
 spells_whole number value level at tokens (zero_level, says) = says
 
@@ -74,7 +71,7 @@ number_phrase both = form.whole_number both.0 both.1
 
 number_made_at : (layer : ExprLayer) (both : ℕ × ℤ) (at : ℕ) (tokens : List Token) → whole_at layer ≡ Some both → expr (roll-Expr layer) at tokens → form.whole_number both.0 both.1 at tokens
 number_made_at (Expr-F.Whole number value) both at tokens is says =
-    let same = some_pair {A = ℕ} {B = ℤ} number both.0 value both.1 is in
+    let same = some_pair_parts {A = ℕ} {B = ℤ} number both.0 value both.1 is in
     subst (λ value. form.whole_number both.0 value at tokens) same.1 (subst (λ number. form.whole_number number value at tokens) same.0 (is_whole number value at tokens says))
 number_made_at _ both at tokens is says = absurd (cc is)
 
@@ -90,22 +87,10 @@ number_begun both at tokens (here, split, (is_at, is_number)) = inl (subst (λ t
 
 -- ---- LEN and `=`
 
-pub and_false : (a b : Bool) → a ≡ false → (a && b) ≡ false
-and_false false b e = refl
-and_false true b e = absurd (cc e)
-
-and_right : (a b : Bool) → b ≡ false → (a && b) ≡ false
-and_right false b e = refl
-and_right true b e = e
-
-pub and_both : (a b : Bool) → a ≡ true → b ≡ true → (a && b) ≡ true
-and_both true b e f = f
-and_both false b e f = absurd (cc e)
-
 -- a word, `=` and more
 pub shows_len : (here equals : Token) (at : ℕ) (rest : List Token) → is_word (codes "len") here ≡ true → lexeme_of equals ≡ Equals → sees_len (input at (here ∷ equals ∷ rest)) ≡ true
 unfolding sees_len sees_word peek_second
-shows_len here equals at rest is e = and_both (is_word (codes "len") here) (is_equals_at (Some (lexeme_of equals))) is (equals_same (lexeme_of equals) ∙ is_same (lexeme_of equals) Equals e)
+shows_len here equals at rest is e = and_from (is_word (codes "len") here) (is_equals_at (Some (lexeme_of equals))) is (equals_same (lexeme_of equals) ∙ is_same (lexeme_of equals) Equals e)
 
 -- no `=` comes second
 no_equals : (here : Token) (at : ℕ) (rest : List Token) → begins (only Equals) rest ≡ false → sees_len (input at (here ∷ rest)) ≡ false
@@ -116,13 +101,13 @@ no_equals here at (second ∷ rest) e = and_right (is_word (codes "len") here) (
 -- the first token is no word
 pub no_len : (here : Token) (at : ℕ) (rest : List Token) → only Word (lexeme_of here) ≡ false → sees_len (input at (here ∷ rest)) ≡ false
 unfolding sees_len
-no_len here at rest e = and_false (sees_word (codes "len") (input at (here ∷ rest))) (is_equals_at (peek_second (input at (here ∷ rest)))) (hidden (codes "len") at (here ∷ rest) e)
+no_len here at rest e = and_left (sees_word (codes "len") (input at (here ∷ rest))) (is_equals_at (peek_second (input at (here ∷ rest)))) (hidden (codes "len") at (here ∷ rest) e)
 
 name_spelled : (here : Token) (at : ℕ) → lexeme_of here ≡ Word → Spells (refer at no_args no_section) 0 at (here ∷ [])
 name_spelled here at is = (refl, (here ∷ [], [], refl, (here, refl, (refl, is)), ([], [], refl, refl, refl)))
 
 name_alone : (here : Token) (at : ℕ) → lexeme_of here ≡ Word → expr (made.Refer at None None) at (here ∷ [])
-name_alone here at is = (0, omega arith, subst (λ tree. Spells tree 0 at (here ∷ [])) (sym (tree_name at)) (name_spelled here at is))
+name_alone here at is = (0, omega arith, subst (λ tree. Spells tree 0 at (here ∷ [])) (sym (tree_refer at None None)) (name_spelled here at is))
 
 module _ (laws : ReadsExpressions) where
   -- two tokens are read as one
@@ -131,7 +116,7 @@ module _ (laws : ReadsExpressions) where
   one_too_many e here equals at more rest is_name is_equals says stops =
       let whole = laws.complete e at (here ∷ equals ∷ more) rest says stops in
       let one = laws.complete (made.Refer at None None) at (here ∷ []) (equals ∷ (more ++ rest)) (name_alone here at (same_is (lexeme_of here) Word is_name)) (equals_no_more (lexeme_of equals) is_equals) in
-      let same = some_pair e (made.Refer at None None) (input (at + length (here ∷ equals ∷ more)) rest) (input (at + length (here ∷ [])) (equals ∷ (more ++ rest))) (sym whole ∙ one) in
+      let same = some_pair_parts e (made.Refer at None None) (input (at + length (here ∷ equals ∷ more)) rest) (input (at + length (here ∷ [])) (equals ∷ (more ++ rest))) (sym whole ∙ one) in
       let place : at + length (here ∷ equals ∷ more) ≡ at + length (here ∷ []) = ap (λ i. i.at) same.1 in
       longer place where
         longer : at + length (here ∷ equals ∷ more) ≡ at + length (here ∷ []) → ⊥

@@ -1,6 +1,6 @@
 -- Letters and ranges of letters as pieces.
-use Rattle.std.proofs.Common.{◌≡◌, refl, sym, ◌∙◌, ap, arith, ℕ, ◌≤◌, Bool, true, List, [], ◌∷◌, Option, Some, None}
-use Rattle.std.specs.Prelude.{nat_le}
+use Rattle.std.proofs.Common.{◌≡◌, refl, sym, ◌∙◌, ap, ℕ, Bool, true, List, [], ◌∷◌, Option, Some, None}
+use Rattle.std.proofs.lemmas.Bool.{leb-true, le-leb}
 use Rattle.ftn_tree.specs.declared.token.Token.{Token}
 use Rattle.ftn_tree.specs.declared.token.TokenKind.{TokenKind}
 use Rattle.ftn_tree.specs.declared.token.TokenKind.TheVariants as kinds
@@ -10,7 +10,7 @@ use Rattle.ftn_tree.specs.declared.parts.LetterRange.{LetterRange}
 use Rattle.ftn_tree.specs.Lexemes.{lexeme_of, lexeme_by, same_lexeme}
 use Rattle.ftn_tree.specs.Phrases.{Phrase}
 use Rattle.ftn_tree.specs.UnitForms as written
-use Rattle.expr_parse.specs.Input.{Input}
+use Rattle.expr_parse.specs.steps.Input.{Input}
 use Rattle.expr_parse.proofs.AllKinds.{apart, within}
 use Rattle.expr_parse.proofs.Lists.{list}
 use Rattle.expr_parse.proofs.Pieces.{Piece, Apart, seq, option, mapped, reread}
@@ -18,7 +18,7 @@ use Rattle.expr_parse.proofs.Tokens.{only, apart_none, after_mark, parens}
 use Rattle.spec_parse.specs.steps.Implicits.{one_byte, letter_by, letter_at_front, taken_letter, letter, in_order, number_of_last, range_of, Ends}
 use Rattle.spec_parse.proofs.Choices.{checked_piece}
 use Rattle.spec_parse.proofs.Either.{rephrased}
-use Rattle.spec_parse.proofs.Regroup.{drop_end, add_end}
+use Rattle.ftn_tree.proofs.PhraseLaws.{drop_end, add_end}
 use Rattle.spec_parse.proofs.Valued.{valued, valued_phrase, at_front, taken, read_value}
 use Rattle.spec_parse.proofs.WordKinds.{is_word_kind}
 
@@ -98,15 +98,9 @@ are_in_order ends = in_order ends.0.1 ends.1
 abbrev ordered_piece : Piece Ends
 ordered_piece = checked_piece are_in_order ends_piece
 
-le_of : (a b : ℕ) → nat_le a b ≡ true → a ≤ b
-le_of a b e = grind arith
-
-is_le : (a b : ℕ) → a ≤ b → nat_le a b ≡ true
-is_le a b e = grind arith
-
 made_by : (first : ℕ × ℕ) (last : Option (ℕ × ℕ)) (at : ℕ) (tokens : List Token) → ordered_piece.phrase (first, last) at tokens → written.letters first.0 (number_of_last last) at tokens
 made_by first None at tokens (passes, says) = (first.1, drop_end (letter_phrase first) at tokens says)
-made_by first (Some last) at tokens (passes, says) = (first.1, last.1, le_of first.1 last.1 passes, says)
+made_by first (Some last) at tokens (passes, says) = (first.1, last.1, leb-true first.1 last.1 passes, says)
 
 pub range_made : (ends : Ends) (at : ℕ) (tokens : List Token) → ordered_piece.phrase ends at tokens → written.letter_range (range_of ends) at tokens
 range_made ends at tokens says = made_by ends.0 ends.1 at tokens says
@@ -116,7 +110,7 @@ with_ends first last = record { first = first; last = last }
 
 back_by : (first : ℕ) (last : Option ℕ) (at : ℕ) (tokens : List Token) → written.letters first last at tokens → (ends : Ends) × (range_of ends ≡ with_ends first last) × ordered_piece.phrase ends at tokens
 back_by first None at tokens (byte, says) = (((first, byte), None), refl, (refl, add_end (written.letter byte first) at tokens says))
-back_by first (Some last) at tokens (byte, other, ordered, says) = (((first, byte), Some (last, other)), refl, (is_le byte other ordered, says))
+back_by first (Some last) at tokens (byte, other, ordered, says) = (((first, byte), Some (last, other)), refl, (le-leb byte other ordered, says))
 
 pub range_back : (range : LetterRange) (at : ℕ) (tokens : List Token) → written.letter_range range at tokens → (ends : Ends) × (range_of ends ≡ range) × ordered_piece.phrase ends at tokens
 range_back range at tokens says = back_by range.first range.last at tokens says

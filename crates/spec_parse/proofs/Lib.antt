@@ -1,4 +1,3 @@
-pub mod Turns
 pub mod Choices
 pub mod Seen
 pub mod Lengths
@@ -19,7 +18,6 @@ pub mod Wholes
 pub mod FirstWords
 pub mod UnitPieces
 pub mod Either
-pub mod Regroup
 pub mod UnitLaws
 pub mod UsePieces
 pub mod UseLaws
@@ -39,3 +37,4 @@ pub mod DataValues
 pub mod DataLaws
 pub mod StatementLaws
 pub mod Judging
+pub mod OneForm

@@ -2,6 +2,9 @@
 use Rattle.std.proofs.Common.{◌≡◌, refl, sym, ◌∙◌, ap, subst, arith, ℕ, zero, suc, ◌+◌, ◌≤◌, Bool, true, false, ◌||◌, ◌&&◌, not, List, [], ◌∷◌, ◌++◌, length, Option, Some, append_assoc, ◌⊎◌, inl, inr, if◌then◌else◌}
 use Rattle.std.proofs.lemmas.List.{append-nil}
 use Rattle.std.proofs.lemmas.Grind.{common_steps}
+use Rattle.std.proofs.lemmas.Option.{some_pair_parts}
+use Rattle.std.specs.Cmp.{first_so}
+use Rattle.std.proofs.lemmas.Bool.{and_from, not_from_false}
 use Rattle.ftn_tree.specs.declared.token.Token.{Token}
 use Rattle.ftn_tree.specs.declared.parts.BoundPair.{BoundPair}
 use Rattle.ftn_tree.specs.declared.parts.CommonMember.{CommonMember}
@@ -10,8 +13,8 @@ use Rattle.ftn_tree.specs.declared.lexeme.Lexeme.TheVariants.{Word, Comma, Divid
 use Rattle.ftn_tree.specs.Lexemes.{lexeme_of, same_lexeme}
 use Rattle.ftn_tree.specs.Phrases.{Phrase, nothing, ◌·◌, mark, commas, after_commas}
 use Rattle.ftn_tree.specs.SpecificationForms as form
-use Rattle.expr_parse.specs.Input.{Input, input, Reader, ◌>>=◌, after, after_if, eat, sees, peek_second}
-use Rattle.expr_parse.proofs.Pieces.{Piece, Took, Apart, begins, bind_some, bind_is, some_pair, took_both, seq, mapped, reread}
+use Rattle.expr_parse.specs.steps.Input.{Input, input, Reader, ◌>>=◌, after, after_if, eat, sees, peek_second}
+use Rattle.expr_parse.proofs.Pieces.{Piece, Took, Apart, begins, bind_some, bind_is, took_both, seq, mapped, reread}
 use Rattle.expr_parse.proofs.Tokens.{only, apart_none, name_piece, is_same}
 use Rattle.expr_parse.proofs.Lists.{took_mark}
 use Rattle.expr_parse.proofs.AllKinds.{apart}
@@ -38,25 +41,13 @@ word_no_slash = apart (only Word) is_slash refl
 abbrev pub Stops : List Token → Type 0
 Stops rest = (begins (only Open) rest ≡ false) × ((at : ℕ) → goes_on (input at rest) ≡ false)
 
-left_true : (a b : Bool) → (a && b) ≡ true → a ≡ true
-left_true true b e = refl
-left_true false b e = e
-
-both_true : (a b : Bool) → a ≡ true → b ≡ true → (a && b) ≡ true
-both_true true b e f = f
-both_true false b e f = absurd (cc e)
-
-not_true : (a : Bool) → a ≡ false → not a ≡ true
-not_true false e = refl
-not_true true e = absurd (cc e)
-
 -- a comma and a name go on
 pub comma_goes_on : (comma : Token) (at : ℕ) (later : List Token) → lexeme_of comma ≡ Comma → begins (only Word) later ≡ true → goes_on (input at (comma ∷ later)) ≡ true
 unfolding sees peek_second
 comma_goes_on comma at [] is e = absurd (cc e)
 comma_goes_on comma at (next ∷ later) is e =
-    both_true (same_lexeme (lexeme_of comma) Comma) (not (is_slash_at (Some (lexeme_of next)))) (is_same (lexeme_of comma) Comma is)
-    (not_true (is_slash_at (Some (lexeme_of next))) (slash_is (lexeme_of next) ∙ word_no_slash (lexeme_of next) e))
+    and_from (same_lexeme (lexeme_of comma) Comma) (not (is_slash_at (Some (lexeme_of next)))) (is_same (lexeme_of comma) Comma is)
+    (not_from_false (is_slash_at (Some (lexeme_of next))) (slash_is (lexeme_of next) ∙ word_no_slash (lexeme_of next) e))
 
 took_alone : (phrase : Phrase) (i j : Input) → Took phrase i j → Took (phrase · nothing) i j
 took_alone phrase i j took = record { tokens = took.tokens; rest = took.rest; at = took.at; says = (took.tokens, [], nothing_after took.tokens, took.says, refl) } where
@@ -103,7 +94,7 @@ module _ (laws : ReadsExpressions) where
 
       by : (there : Bool) → goes_on k ≡ there → Found found all i j
       by true there =
-          let comma = left_true (sees Comma k) (not (is_slash_at (peek_second k))) there in
+          let comma = first_so (sees Comma k) (not (is_slash_at (peek_second k))) there in
           let gives = sym (ap (λ there. if there then (eat Comma >>= (λ _. members_from n (found ++ a ∷ []))) k else Some (found ++ a ∷ [], k)) there) ∙ next in
           let later = onto (sees Comma k) refl comma gives in
           record {
@@ -114,7 +105,7 @@ module _ (laws : ReadsExpressions) where
                 (took_both (mark Comma) (form.member later.first · after_commas form.member later.rest) k (after k) j (took_mark Comma k comma) later.took);
           }
       by false there =
-          let same = some_pair (found ++ a ∷ []) all k j (sym (ap (λ there. if there then (eat Comma >>= (λ _. members_from n (found ++ a ∷ []))) k else Some (found ++ a ∷ [], k)) there) ∙ next) in
+          let same = some_pair_parts (found ++ a ∷ []) all k j (sym (ap (λ there. if there then (eat Comma >>= (λ _. members_from n (found ++ a ∷ []))) k else Some (found ++ a ∷ [], k)) there) ∙ next) in
           record {
             first = a;
             rest = [];

@@ -1,7 +1,8 @@
 -- A whole number as a piece.
-use Rattle.std.proofs.Common.{◌≡◌, refl, sym, ◌∙◌, ap, subst, arith, ℕ, ◌<◌, ◌^◌, ℤ, pos, Bool, true, false, List, [], ◌∷◌, Option, Some, None, if◌then◌else◌}
-use Rattle.std.specs.Prelude.{nat_lt}
+use Rattle.std.proofs.Common.{◌≡◌, refl, sym, ◌∙◌, ap, subst, arith, ℕ, ◌≤◌, ℤ, pos, Bool, true, false, List, [], ◌∷◌, Option, Some, None, if◌then◌else◌}
+use Rattle.std.specs.Prelude.{nat_le}
 use denote.Hole.Carrier
+use Rattle.ftn_base.specs.Limits.{greatest_integer}
 use Rattle.ftn_tree.specs.declared.token.Token.{Token}
 use Rattle.ftn_tree.specs.declared.expr.Expr.{Expr, out-Expr}
 use Rattle.ftn_tree.specs.declared.lexeme.Lexeme.{Lexeme}
@@ -11,8 +12,8 @@ use Rattle.ftn_tree.specs.Breaks.{number_of}
 use Rattle.ftn_tree.specs.Grammar.{IsNumber}
 use Rattle.ftn_tree.specs.Phrases.{Phrase}
 use Rattle.ftn_tree.specs.TypeForms as written
-use Rattle.expr_parse.specs.Input.{Input, input, Reader, and_then, pure, expect, sees, taken_if}
-use Rattle.expr_parse.specs.Reading.{whole_value, whole_at, constant_by, take_one, constant}
+use Rattle.expr_parse.specs.steps.Input.{Input, input, Reader, and_then, pure, expect, sees, taken_if}
+use Rattle.expr_parse.specs.steps.Reading.{whole_value, whole_at, constant_by, take_one, constant}
 use Rattle.expr_parse.proofs.Pieces.{Piece, reread}
 use Rattle.expr_parse.proofs.Tokens.{is_same}
 use Rattle.spec_parse.specs.steps.Implicits.{number_at, whole_number}
@@ -36,23 +37,23 @@ kind_by _ text value is = absurd (cc is)
 pub whole_kind : (here : Token) (value : ℤ) → number_here here ≡ Some value → lexeme_of here ≡ lexeme.Whole
 whole_kind here value is = kind_by (lexeme_of here) here.value value is
 
-below : (n : ℕ) → nat_lt n (2 ^ 31) ≡ true → n < 2 ^ 31
+below : (n : ℕ) → nat_le n greatest_integer ≡ true → n ≤ greatest_integer
 below n small = grind arith
 
-fits : (n : ℕ) → n < 2 ^ 31 → nat_lt n (2 ^ 31) ≡ true
+fits : (n : ℕ) → n ≤ greatest_integer → nat_le n greatest_integer ≡ true
 fits n small = grind arith
 
 abbrev value_if : Bool → ℕ → Option ℤ
 value_if small n = if small then Some (pos n) else None
 
-digits_mean : (text : List ℕ) (value : ℤ) → whole_value text ≡ Some value → (value ≡ pos (number_of text)) × (number_of text < 2 ^ 31)
+digits_mean : (text : List ℕ) (value : ℤ) → whole_value text ≡ Some value → (value ≡ pos (number_of text)) × (number_of text ≤ greatest_integer)
 unfolding whole_value
-digits_mean text value is = by (nat_lt (number_of text) (2 ^ 31)) refl where
-  by : (small : Bool) → nat_lt (number_of text) (2 ^ 31) ≡ small → (value ≡ pos (number_of text)) × (number_of text < 2 ^ 31)
+digits_mean text value is = by (nat_le (number_of text) greatest_integer) refl where
+  by : (small : Bool) → nat_le (number_of text) greatest_integer ≡ small → (value ≡ pos (number_of text)) × (number_of text ≤ greatest_integer)
   by true small = let same : pos (number_of text) ≡ value = cc (sym (ap (λ small. value_if small (number_of text)) small) ∙ is) in (sym same, below (number_of text) small)
   by false small = absurd (cc (sym (ap (λ small. value_if small (number_of text)) small) ∙ is))
 
-means : (text : List ℕ) (value : ℤ) → value ≡ pos (number_of text) → number_of text < 2 ^ 31 → whole_value text ≡ Some value
+means : (text : List ℕ) (value : ℤ) → value ≡ pos (number_of text) → number_of text ≤ greatest_integer → whole_value text ≡ Some value
 unfolding whole_value
 means text value is small = ap (λ small. value_if small (number_of text)) (fits (number_of text) small) ∙ ap Some (sym is)
 

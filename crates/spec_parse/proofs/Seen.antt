@@ -9,8 +9,8 @@ use Rattle.ftn_tree.specs.declared.lexeme.Lexeme.{Lexeme}
 use Rattle.ftn_tree.specs.declared.lexeme.Lexeme.TheVariants.{Word}
 use Rattle.ftn_tree.specs.Lexemes.{lexeme_of, is_word, is_word_at}
 use Rattle.ftn_tree.specs.Phrases.{Phrase, ◌·◌, word, word_at}
-use Rattle.expr_parse.specs.Input.{input, holds_first, sees, sees_word}
-use Rattle.expr_parse.proofs.Pieces.{Piece, Apart, begins}
+use Rattle.expr_parse.specs.steps.Input.{input, holds_first, sees, sees_word}
+use Rattle.expr_parse.proofs.Pieces.{Piece, Apart, begins, stops_before}
 use Rattle.expr_parse.proofs.Tokens.{only, none_of, word_kind, after_mark}
 
 -- ---- marks
@@ -23,10 +23,6 @@ sees_is kind at (here ∷ rest) = refl
 begins_first : (one other : Lexeme → Bool) (tokens rest : List Token) → ((kind : Lexeme) → one kind ≡ true → other kind ≡ true) → begins one tokens ≡ true → begins other (tokens ++ rest) ≡ true
 begins_first one other [] rest within e = absurd (cc e)
 begins_first one other (here ∷ tokens) rest within e = within (lexeme_of here) e
-
-begins_apart : (one other : Lexeme → Bool) (tokens rest : List Token) → Apart one other → begins one tokens ≡ true → begins other (tokens ++ rest) ≡ false
-begins_apart one other [] rest apart e = absurd (cc e)
-begins_apart one other (here ∷ tokens) rest apart e = apart (lexeme_of here) e
 
 -- a piece that begins with that mark alone shows it
 pub seen : {A : Type 0} (piece : Piece A) (kind : Lexeme) → piece.empty ≡ false → ((other : Lexeme) → piece.first other ≡ true → only kind other ≡ true)
@@ -41,7 +37,7 @@ pub unseen : {A : Type 0} (piece : Piece A) (kind : Lexeme) → piece.empty ≡ 
     → (a : A) (at : ℕ) (tokens rest : List Token) → piece.phrase a at tokens → begins piece.more rest ≡ false → begins none_of rest ≡ false → sees kind (input at (tokens ++ rest)) ≡ false
 unseen piece kind filled apart a at tokens rest says stops none = by (piece.begun a at tokens says) where
   by : (begins piece.first tokens ≡ true) ⊎ ((tokens ≡ []) × (piece.empty ≡ true)) → sees kind (input at (tokens ++ rest)) ≡ false
-  by (inl e) = sees_is kind at (tokens ++ rest) ∙ begins_apart piece.first (only kind) tokens rest apart e
+  by (inl e) = sees_is kind at (tokens ++ rest) ∙ stops_before piece.first (only kind) tokens rest apart e
   by (inr none) = absurd (cc (filled, none.1))
 
 -- one that may be empty doesn't show it where it doesn't follow
@@ -49,7 +45,7 @@ pub unseen_or_empty : {A : Type 0} (piece : Piece A) (kind : Lexeme) → Apart p
     → (a : A) (at : ℕ) (tokens rest : List Token) → piece.phrase a at tokens → begins piece.more rest ≡ false → begins (only kind) rest ≡ false → sees kind (input at (tokens ++ rest)) ≡ false
 unseen_or_empty piece kind apart a at tokens rest says stops follows = by (piece.begun a at tokens says) where
   by : (begins piece.first tokens ≡ true) ⊎ ((tokens ≡ []) × (piece.empty ≡ true)) → sees kind (input at (tokens ++ rest)) ≡ false
-  by (inl e) = sees_is kind at (tokens ++ rest) ∙ begins_apart piece.first (only kind) tokens rest apart e
+  by (inl e) = sees_is kind at (tokens ++ rest) ∙ stops_before piece.first (only kind) tokens rest apart e
   by (inr none) = subst (λ tokens. sees kind (input at (tokens ++ rest)) ≡ false) (sym none.0) (sees_is kind at rest ∙ follows)
 
 first_or : (a b : Bool) → (a || (false && b)) ≡ true → a ≡ true

@@ -17,13 +17,13 @@ use Rattle.ftn_tree.specs.Phrases.{word, name, maybe}
 use Rattle.ftn_tree.specs.TypeForms.{type_text}
 use Rattle.ftn_tree.specs.SpecificationForms.{access_word, procedure_word}
 use Rattle.ftn_tree.specs.UnitForms.{unit_form_at}
-use Rattle.expr_parse.specs.Input.{Input, input}
+use Rattle.expr_parse.specs.steps.Input.{Input, input}
 use Rattle.expr_parse.proofs.Laws.{expression_laws}
 use Rattle.spec_parse.specs.declared.rows.Row.{Row}
 use Rattle.spec_parse.specs.declared.rows.Row.TheVariants as row
 use Rattle.spec_parse.specs.steps.Rows.{find_row, attribute_row, row_at_front, row_reader, read_by, statement}
 use Rattle.spec_parse.proofs.FirstWords.{alone_leads, more_after, by_row}
-use Rattle.spec_parse.proofs.Regroup.{drop_none}
+use Rattle.ftn_tree.proofs.PhraseLaws.{drop_none}
 use Rattle.spec_parse.proofs.UnitLaws as units
 use Rattle.spec_parse.proofs.UseLaws as uses
 use Rattle.spec_parse.proofs.EndLaws as ends

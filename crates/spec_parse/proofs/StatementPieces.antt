@@ -18,7 +18,7 @@ use Rattle.ftn_tree.specs.declared.lexeme.Lexeme.TheVariants.{Open, Close, Comma
 use Rattle.ftn_tree.specs.Lexemes.{same_lexeme}
 use Rattle.ftn_tree.specs.Phrases.{name}
 use Rattle.ftn_tree.specs.SpecificationForms as form
-use Rattle.expr_parse.specs.Input.{Input, sees}
+use Rattle.expr_parse.specs.steps.Input.{Input, sees}
 use Rattle.expr_parse.proofs.Pieces.{Piece, Apart, reread, mapped, option, seq}
 use Rattle.expr_parse.proofs.AllKinds.{apart}
 use Rattle.expr_parse.proofs.Tokens.{only, none_of, apart_none, name_piece, after_word, after_mark, before_mark, parens}

@@ -1,11 +1,11 @@
 -- Pieces of one token that is read for a value by itself.
-use Rattle.std.proofs.Common.{◌≡◌, refl, sym, ◌∙◌, ap, subst, ℕ, ◌+◌, Bool, true, false, List, [], ◌∷◌, ◌++◌, length, Option, Some, None, ◌⊎◌, inl}
+use Rattle.std.proofs.Common.{◌≡◌, refl, sym, ap, subst, ℕ, ◌+◌, Bool, true, false, List, [], ◌∷◌, ◌++◌, length, Option, Some, None, ◌⊎◌, inl}
 use Rattle.ftn_tree.specs.declared.token.Token.{Token}
 use Rattle.ftn_tree.specs.declared.lexeme.Lexeme.{Lexeme}
 use Rattle.ftn_tree.specs.Lexemes.{lexeme_of}
 use Rattle.ftn_tree.specs.Phrases.{Phrase, token}
-use Rattle.expr_parse.specs.Input.{Input, input, Reader, after}
-use Rattle.expr_parse.specs.Reading.{take_one}
+use Rattle.expr_parse.specs.steps.Input.{Input, input, Reader, after}
+use Rattle.expr_parse.specs.steps.Reading.{take_one}
 use Rattle.expr_parse.proofs.Pieces.{Piece, Took, begins}
 use Rattle.expr_parse.proofs.Takes.{token_took, given}
 use Rattle.expr_parse.proofs.Tokens.{none_of}

@@ -1,15 +1,16 @@
 -- Pieces that a word follows where that holds of what is read.
-use Rattle.std.proofs.Common.{◌≡◌, refl, sym, ◌∙◌, ap, subst, ℕ, ◌+◌, Bool, true, false, List, [], ◌∷◌, ◌++◌, length, Some, append_assoc, ◌⊎◌, inl, inr, if◌then◌else◌}
+use Rattle.std.proofs.Common.{◌≡◌, refl, sym, ◌∙◌, ap, subst, ℕ, ◌+◌, Bool, true, false, List, [], ◌∷◌, ◌++◌, length, Some, append_assoc, ◌⊎◌, inl, inr, if◌then◌else◌, add-zero}
+use Rattle.std.proofs.lemmas.Option.{some_pair_parts}
 use Rattle.ftn_tree.specs.declared.token.Token.{Token}
 use Rattle.ftn_tree.specs.declared.lexeme.Lexeme.{Lexeme}
 use Rattle.ftn_tree.specs.declared.lexeme.Lexeme.TheVariants.{Word}
 use Rattle.ftn_tree.specs.Lexemes.{lexeme_of}
 use Rattle.ftn_tree.specs.Phrases.{Phrase, nothing, ◌·◌, word, whether}
-use Rattle.expr_parse.specs.Input.{Input, input, Reader, ◌>>◌, pure, expect_word}
-use Rattle.expr_parse.proofs.Pieces.{Piece, Took, Apart, begins, begins_after, bind_some, bind_is, some_pair, took_both, placed, plus_none}
+use Rattle.expr_parse.specs.steps.Input.{Input, input, Reader, ◌>>◌, pure, expect_word}
+use Rattle.expr_parse.proofs.Pieces.{Piece, Took, Apart, begins, begins_after, bind_some, bind_is, took_both}
 use Rattle.expr_parse.proofs.Tokens.{only, none_of, word_piece, word_made, word_back, word_kind}
 use Rattle.spec_parse.specs.steps.Choices.{trailed}
-use Rattle.spec_parse.proofs.Regroup.{drop_end}
+use Rattle.ftn_tree.proofs.PhraseLaws.{placed}
 
 none_begins : (tokens : List Token) → begins none_of tokens ≡ false
 none_begins [] = refl
@@ -37,15 +38,15 @@ module _ {A : Type 0} (test : A → Bool) (text : List ℕ) (piece : Piece A) (f
   then_sound : (a b : A) (i k j : Input) → Took (piece.phrase a) i k → (holds : Bool) → test a ≡ holds → next_by holds a k ≡ Some (b, j) → Took (trailed_phrase b) i j
   then_sound a b i k j took true is e =
       let (n, l, read, gives) = bind_some (expect_word text k) (λ n. pure a) b j e in
-      let same = some_pair a b l j gives in
+      let same = some_pair_parts a b l j gives in
       let last = (word_piece text).sound k n l read in
       let word_took : Took (word text) k l = record { tokens = last.tokens; rest = last.rest; at = last.at; says = word_made text n k.at last.tokens last.says } in
       let both = took_both (piece.phrase a) (word text) i k l took word_took in
       let all : Took (trailed_phrase a) i l = subst (λ holds. Took (piece.phrase a · whether holds (word text)) i l) (sym is) both in
       subst (λ b. Took (trailed_phrase b) i j) same.0 (subst (λ j. Took (trailed_phrase a) i j) same.1 all)
   then_sound a b i k j took false is e =
-      let same = some_pair a b k j e in
-      let both = took_both (piece.phrase a) nothing i k k took (record { tokens = []; rest = refl; at = sym (plus_none k.at); says = refl }) in
+      let same = some_pair_parts a b k j e in
+      let both = took_both (piece.phrase a) nothing i k k took (record { tokens = []; rest = refl; at = sym (add-zero k.at); says = refl }) in
       let all : Took (trailed_phrase a) i k = subst (λ holds. Took (piece.phrase a · whether holds (word text)) i k) (sym is) both in
       subst (λ b. Took (trailed_phrase b) i j) same.0 (subst (λ j. Took (trailed_phrase a) i j) same.1 all)
 
@@ -69,7 +70,7 @@ module _ {A : Type 0} (test : A → Bool) (text : List ℕ) (piece : Piece A) (f
       subst (λ after. trailed test text piece.read (input at (before ++ (after ++ rest))) ≡ Some (a, input (place + length after) rest)) (sym none)
       (bind_is (piece.read (input at (before ++ rest))) next a (input place rest) (Some (a, input (place + 0) rest))
       (piece.complete a at before rest says stops)
-      (ap (λ holds. next_by holds a (input place rest)) is ∙ ap (λ place. Some (a, input place rest)) (sym (plus_none place))))
+      (ap (λ holds. next_by holds a (input place rest)) is ∙ ap (λ place. Some (a, input place rest)) (sym (add-zero place))))
 
   pub complete_trailed : (a : A) (at : ℕ) (tokens rest : List Token) → trailed_phrase a at tokens → begins piece.more rest ≡ false
       → trailed test text piece.read (input at (tokens ++ rest)) ≡ Some (a, input (at + length tokens) rest)

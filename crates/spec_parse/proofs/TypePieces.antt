@@ -16,12 +16,12 @@ use Rattle.ftn_tree.specs.Lexemes.{lexeme_of, same_lexeme}
 use Rattle.ftn_tree.specs.Phrases.{Phrase, never, ◌·◌, word, word_at, mark_at, maybe, in_parens}
 use Rattle.ftn_tree.specs.Grammar.{expr}
 use Rattle.ftn_tree.specs.TypeForms as form
-use Rattle.expr_parse.specs.Input.{Input, input, sees, sees_word}
+use Rattle.expr_parse.specs.steps.Input.{Input, input, sees, sees_word}
 use Rattle.expr_parse.proofs.Pieces.{Piece, Apart, begins, begins_or, reread, option}
 use Rattle.expr_parse.proofs.AllKinds.{apart}
 use Rattle.expr_parse.proofs.Tokens.{only, none_of, mark_piece, word_piece, word_made, word_back, bare_made, bare_back, after_word, after_mark, before_mark, parens, is_same}
 use Rattle.expr_parse.proofs.Operands.{ReadsExpressions, expression_piece, goes_on}
-use Rattle.expr_parse.specs.Combinators.{◌<$>◌}
+use Rattle.expr_parse.specs.steps.Combinators.{◌<$>◌}
 use Rattle.spec_parse.specs.steps.Choices.{picked}
 use Rattle.spec_parse.specs.steps.Types as spec
 use Rattle.spec_parse.specs.steps.Types.{length_value, char_length, len_selector, length_selector, other_type, type_spec, whole_of, sees_len}

@@ -1,5 +1,6 @@
 -- The statements that begin program units, procedures and interface blocks are read as they are written.
-use Rattle.std.proofs.Common.{◌≡◌, refl, sym, ◌∙◌, ap, subst, ℕ, Bool, true, false, ◌&&◌, List, [], ◌∷◌, ◌++◌, Option, Some, codes}
+use Rattle.std.proofs.Common.{◌≡◌, refl, sym, ◌∙◌, ap, subst, ℕ, Bool, true, false, List, [], ◌∷◌, ◌++◌, Option, Some, codes}
+use Rattle.std.proofs.lemmas.Bool.{and_from}
 use denote.Hole.Carrier
 use Rattle.ftn_tree.specs.declared.token.Token.{Token}
 use Rattle.ftn_tree.specs.declared.form.Form.{Form, out-Form}
@@ -7,14 +8,14 @@ use Rattle.ftn_tree.specs.declared.form.Form.TheVariants as form
 use Rattle.ftn_tree.specs.declared.lexeme.Lexeme.TheVariants.{Word}
 use Rattle.ftn_tree.specs.Lexemes.{lexeme_of, is_word, same_lexeme}
 use Rattle.ftn_tree.specs.Phrases.{Phrase, ◌·◌, word, name, commas, maybe, in_parens, commas_or_none}
-use Rattle.expr_parse.specs.Input.{Input, input}
+use Rattle.expr_parse.specs.steps.Input.{Input, input}
 use Rattle.expr_parse.proofs.Tokens.{is_same}
 use Rattle.ftn_tree.specs.UnitForms as form_of
-use Rattle.spec_parse.specs.steps.Names.{names, dummies}
+use Rattle.spec_parse.specs.steps.Names.{dummies}
 use Rattle.spec_parse.specs.declared.rows.Row.TheVariants as row
 use Rattle.spec_parse.specs.steps.Rows.{find_row, row_at_front}
 use Rattle.spec_parse.specs.steps.Units.{block_data, block_data_of, program, module_unit, module_procedure, names_procedures, module_row, subroutine, subroutine_parts, contains, interface}
-use Rattle.spec_parse.proofs.Regroup.{to_right, led_by}
+use Rattle.ftn_tree.proofs.PhraseLaws.{to_right, led_by}
 use Rattle.spec_parse.proofs.FirstWords.{phrase_leads}
 use Rattle.spec_parse.proofs.UnitPieces as parts
 use Rattle.spec_parse.proofs.Wholes.{Sound, GivesForm, row_sound, row_complete, choose_one, choose_other, chosen_sound}
@@ -54,16 +55,12 @@ unfolding module_unit out-Form denote.Hole.Carrier.out
 sound_unit = row_sound parts.module_parts form.Module (λ n at tokens says. says)
 
 sound_procedure : Sound module_procedure
-unfolding module_procedure names out-Form denote.Hole.Carrier.out
+unfolding module_procedure out-Form denote.Hole.Carrier.out
 sound_procedure = row_sound parts.procedure_parts form.ModuleProcedure (λ all at tokens says. says)
 
 pub sound_module : Sound module_row
 unfolding module_row
 sound_module = chosen_sound by_third module_procedure module_unit sound_procedure sound_unit
-
-both : (a b : Bool) → a ≡ true → b ≡ true → (a && b) ≡ true
-both true b e f = f
-both false b e f = e
 
 third_is_name : (all : List ℕ) (at : ℕ) (tokens : List Token) → (word (codes "module") · word (codes "procedure") · commas name all) at tokens → names_procedures tokens ≡ true
 unfolding names_procedures
@@ -71,7 +68,7 @@ third_is_name [] at tokens (one, after, split, says, (two, last, split_after, sa
 third_is_name (n ∷ all) at tokens (one, after, split, (first, is_one, is), (two, last, split_after, (second, is_two, is_second), (three, rest, split_last, (third, is_three, (is_at, is_third)), says))) =
     let all_tokens = led_by first one after (second ∷ third ∷ rest) tokens split is_one (led_by second two last (third ∷ rest) after split_after is_two (led_by third three rest rest last split_last is_three refl)) in
     subst (λ tokens. names_procedures tokens ≡ true) (sym all_tokens)
-    (both (is_word (codes "procedure") second) (same_lexeme (lexeme_of third) Word) is_second (is_same (lexeme_of third) Word is_third))
+    (and_from (is_word (codes "procedure") second) (same_lexeme (lexeme_of third) Word) is_second (is_same (lexeme_of third) Word is_third))
 
 no_third : (n at : ℕ) (tokens : List Token) → (word (codes "module") · name n) at tokens → names_procedures tokens ≡ false
 unfolding names_procedures
@@ -83,7 +80,7 @@ unfolding module_row module_unit
 complete_module n at tokens says = choose_other by_third module_procedure module_unit (input at tokens) (no_third n at tokens says) ∙ row_complete parts.module_parts form.Module n at tokens says
 
 pub complete_procedure : (all : List ℕ) (at : ℕ) (tokens : List Token) → (word (codes "module") · word (codes "procedure") · commas name all) at tokens → GivesForm module_row at tokens (form.ModuleProcedure all)
-unfolding module_row module_procedure names
+unfolding module_row module_procedure
 complete_procedure all at tokens says =
     choose_one by_third module_procedure module_unit (input at tokens) (third_is_name all at tokens says) ∙ row_complete parts.procedure_parts form.ModuleProcedure all at tokens says
 

@@ -6,7 +6,7 @@ use Rattle.ftn_tree.specs.declared.lexeme.Lexeme.TheVariants.{Word, Open, Close,
 use Rattle.ftn_tree.specs.Lexemes.{same_lexeme}
 use Rattle.ftn_tree.specs.Phrases.{word_at}
 use Rattle.ftn_tree.specs.UnitForms.{block_data}
-use Rattle.expr_parse.specs.Input.{Input, sees_word}
+use Rattle.expr_parse.specs.steps.Input.{Input, sees_word}
 use Rattle.expr_parse.proofs.Pieces.{Piece, Apart, seq, option, reread}
 use Rattle.expr_parse.proofs.AllKinds.{apart, within}
 use Rattle.expr_parse.proofs.Tokens.{only, none_of, apart_none, name_piece, word_piece, word_made, word_back, after_word, parens}

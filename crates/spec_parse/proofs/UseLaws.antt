@@ -1,5 +1,6 @@
 -- USE statements are read as they are written.
-use Rattle.std.proofs.Common.{◌≡◌, refl, sym, ◌∙◌, ap, subst, ℕ, Bool, true, false, ◌&&◌, List, [], ◌∷◌, ◌++◌, codes}
+use Rattle.std.proofs.Common.{◌≡◌, refl, sym, ◌∙◌, ap, subst, ℕ, Bool, true, false, List, [], ◌∷◌, ◌++◌, codes}
+use Rattle.std.proofs.lemmas.Bool.{and_from, and_right}
 use denote.Hole.Carrier
 use Rattle.ftn_tree.specs.declared.token.Token.{Token}
 use Rattle.ftn_tree.specs.declared.form.Form.{Form, out-Form}
@@ -11,10 +12,10 @@ use Rattle.ftn_tree.specs.declared.parts.OnlyItem.{OnlyItem}
 use Rattle.ftn_tree.specs.Lexemes.{lexeme_of, is_word, same_lexeme}
 use Rattle.ftn_tree.specs.Phrases.{◌·◌, word, mark, name, after_commas, commas_or_none}
 use Rattle.ftn_tree.specs.UnitForms as written
-use Rattle.expr_parse.specs.Input.{Input, input}
+use Rattle.expr_parse.specs.steps.Input.{Input, input}
 use Rattle.expr_parse.proofs.Tokens.{is_same}
 use Rattle.spec_parse.specs.steps.Uses.{rename, only_item, renames, use_all, only_items, items_if_any, use_only, names_items, use_row}
-use Rattle.spec_parse.proofs.Regroup.{led_by}
+use Rattle.ftn_tree.proofs.PhraseLaws.{led_by}
 use Rattle.spec_parse.proofs.UsePieces as parts
 use Rattle.spec_parse.proofs.Wholes.{Sound, GivesForm, row_sound, row_complete, choose_one, choose_other, chosen_sound}
 
@@ -39,14 +40,6 @@ pub sound_use : Sound use_row
 unfolding use_row
 sound_use = chosen_sound by_colon use_only use_all sound_only sound_all
 
-both_true : (a b : Bool) → a ≡ true → b ≡ true → (a && b) ≡ true
-both_true true b e f = f
-both_true false b e f = e
-
-second_false : (a b : Bool) → b ≡ false → (a && b) ≡ false
-second_false true b e = e
-second_false false b e = refl
-
 arrow_no_colon : (kind : Lexeme) → kind ≡ Arrow → same_lexeme kind Colon ≡ false
 unfolding same_lexeme
 arrow_no_colon kind e = ap (λ kind. same_lexeme kind Colon) e
@@ -57,7 +50,7 @@ unfolding names_items
 has_colon n items at tokens (b1, a1, s1, (t1, o1, i1), (b2, a2, s2, (t2, o2, i2), (b3, a3, s3, (t3, o3, i3), (b4, a4, s4, (t4, o4, i4), (b5, a5, s5, (t5, o5, i5), says))))) =
     let all_tokens = led_by t1 b1 a1 (t2 ∷ t3 ∷ t4 ∷ t5 ∷ a5) tokens s1 o1 (led_by t2 b2 a2 (t3 ∷ t4 ∷ t5 ∷ a5) a1 s2 o2 (led_by t3 b3 a3 (t4 ∷ t5 ∷ a5) a2 s3 o3
     (led_by t4 b4 a4 (t5 ∷ a5) a3 s4 o4 (led_by t5 b5 a5 a5 a4 s5 o5 refl)))) in
-    subst (λ tokens. names_items tokens ≡ true) (sym all_tokens) (both_true (is_word (codes "only") t4) (same_lexeme (lexeme_of t5) Colon) i4 (is_same (lexeme_of t5) Colon i5))
+    subst (λ tokens. names_items tokens ≡ true) (sym all_tokens) (and_from (is_word (codes "only") t4) (same_lexeme (lexeme_of t5) Colon) i4 (is_same (lexeme_of t5) Colon i5))
 
 no_colon : (n : ℕ) (items : List Rename) (at : ℕ) (tokens : List Token) → (word (codes "use") · name n · after_commas written.rename items) at tokens → names_items tokens ≡ false
 unfolding names_items
@@ -68,7 +61,7 @@ no_colon n (item ∷ items) at tokens
     let one = led_by t5 b5 a5 (t6 ∷ a6) b4 s5 o5 (led_by t6 b6 a6 a6 a5 s6 o6 refl) in
     let rest = s4 ∙ ap (λ b. b ++ a4) one in
     let all_tokens = led_by t1 b1 a1 (t2 ∷ t3 ∷ t5 ∷ t6 ∷ (a6 ++ a4)) tokens s1 o1 (led_by t2 b2 a2 (t3 ∷ t5 ∷ t6 ∷ (a6 ++ a4)) a1 s2 o2 (led_by t3 b3 a3 (t5 ∷ t6 ∷ (a6 ++ a4)) a2 s3 o3 rest)) in
-    subst (λ tokens. names_items tokens ≡ false) (sym all_tokens) (second_false (is_word (codes "only") t5) (same_lexeme (lexeme_of t6) Colon) (arrow_no_colon (lexeme_of t6) i6))
+    subst (λ tokens. names_items tokens ≡ false) (sym all_tokens) (and_right (is_word (codes "only") t5) (same_lexeme (lexeme_of t6) Colon) (arrow_no_colon (lexeme_of t6) i6))
 
 pub complete_use_all : (n : ℕ) (items : List Rename) (at : ℕ) (tokens : List Token) → (word (codes "use") · name n · after_commas written.rename items) at tokens → GivesForm use_row at tokens (form.UseAll n items)
 unfolding use_row use_all renames rename

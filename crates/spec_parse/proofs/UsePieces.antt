@@ -15,7 +15,7 @@ use Rattle.expr_parse.proofs.Lists.{list}
 use Rattle.expr_parse.proofs.Commas.{tail}
 use Rattle.expr_parse.proofs.Ends.{unless_done}
 use Rattle.spec_parse.specs.steps.Uses.{item_by, or_none}
-use Rattle.spec_parse.proofs.Regroup.{to_right, to_left, drop_none, add_none, drop_end, add_end}
+use Rattle.ftn_tree.proofs.PhraseLaws.{to_right, to_left, drop_none, add_none, drop_end, add_end}
 
 -- ---- renames
 

@@ -1,11 +1,12 @@
 -- Pieces of one token that stands for a value.
 use Rattle.std.proofs.Common.{◌≡◌, refl, sym, ◌∙◌, ap, subst, ℕ, ◌+◌, true, false, List, [], ◌∷◌, ◌++◌, length, Option, Some, None, ◌⊎◌, inl}
+use Rattle.std.proofs.lemmas.Option.{some_pair_parts}
 use Rattle.ftn_tree.specs.declared.token.Token.{Token}
 use Rattle.ftn_tree.specs.declared.lexeme.Lexeme.{Lexeme}
 use Rattle.ftn_tree.specs.Lexemes.{lexeme_of}
 use Rattle.ftn_tree.specs.Phrases.{Phrase, token}
-use Rattle.expr_parse.specs.Input.{Input, input, Reader, and_then, ◌>>=◌, pure, refuse, expect, sees, taken_if}
-use Rattle.expr_parse.proofs.Pieces.{Piece, Took, begins, some_pair}
+use Rattle.expr_parse.specs.steps.Input.{Input, input, Reader, and_then, ◌>>=◌, pure, refuse, expect, sees, taken_if}
+use Rattle.expr_parse.proofs.Pieces.{Piece, Took, begins}
 use Rattle.expr_parse.proofs.Tokens.{only, none_of, is_same}
 
 -- tokens of one kind that stand for values, from which and the token's number what is read is made
@@ -41,7 +42,7 @@ module _ {A B : Type 0} (kind : Lexeme) (value : Token → Option A) (make : ℕ
     by : (found : Option A) → value here ≡ found → taken found (input i.at (here ∷ rest)) ≡ Some (b, j) → Took (valued_phrase b) i j
     by None has e = absurd (cc e)
     by (Some a) has e =
-        let same = some_pair (make i.at a) b (input (i.at + 1) rest) j (sym (reads_here i.at here rest a has) ∙ ap (λ found. taken found (input i.at (here ∷ rest))) has ∙ e) in
+        let same = some_pair_parts (make i.at a) b (input (i.at + 1) rest) j (sym (reads_here i.at here rest a has) ∙ ap (λ found. taken found (input i.at (here ∷ rest))) has ∙ e) in
         subst (λ j. Took (valued_phrase b) i j) same.1 (record {
           tokens = here ∷ [];
           rest = is;

@@ -4,8 +4,8 @@ use Rattle.ftn_tree.specs.declared.token.Token.{Token}
 use Rattle.ftn_tree.specs.declared.form.Form.{Form, out-Form}
 use Rattle.ftn_tree.specs.Phrases.{Phrase}
 use Rattle.ftn_tree.specs.UnitForms.{unit_form_at}
-use Rattle.expr_parse.specs.Input.{Input, input, Reader, and_then, pure, ◌>>◌, finish}
-use Rattle.expr_parse.specs.Combinators.{◌<$>◌, to_the_end}
+use Rattle.expr_parse.specs.steps.Input.{Input, input, Reader, and_then, pure, ◌>>◌, finish}
+use Rattle.expr_parse.specs.steps.Combinators.{◌<$>◌, to_the_end}
 use Rattle.expr_parse.proofs.Pieces.{Piece, mapped}
 use Rattle.expr_parse.proofs.Ends.{whole_sound, whole_complete}
 

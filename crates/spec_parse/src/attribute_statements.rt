@@ -1,69 +1,84 @@
 //! Statements that give one attribute (Fortran 90, 5.2, 12.3.2).
 
 ghost use Rattle.std.specs.Prelude.{◌≡◌};
-ghost use Rattle.expr_parse.specs.Input.{Gives};
+ghost use Rattle.expr_parse.specs.steps.Combinators as shared;
+ghost use Rattle.expr_parse.specs.steps.Input.{Gives};
+ghost use Rattle.expr_parse.specs.steps.Input as input;
+ghost use Rattle.spec_parse.specs.steps.Lists as lists;
 ghost use Rattle.spec_parse.specs.steps.Attributes as spec;
 
 use crate::attributes::{access_word, paren_mode, procedure_word};
 use crate::bounds::bounds;
-use crate::list::{Item, after_colons, items_or_none, separated};
-use expr_parse::{Cursor, Misfit, read_expression};
+use crate::colons::{after_colons, items_or_none};
+use crate::names::read_name;
+use expr_parse::{Cursor, Misfit, read_expression, read_names, separated};
 use ftn_tree::{ArrayDecl, Form, Lexeme, NamedConstant, SaveItem};
 use sqlite_items::Items;
 use std::alloc::Global;
 
-impl Item for u32 {
-    ghost use Rattle.expr_parse.specs.Input as input;
-
-    ghost reader = { input.name };
-
-    fn read(_alloc: Global, cursor: &mut Cursor<'_>) -> Result<u32, Misfit> {
-        cursor.name()
-    }
+#[tactic(auto, unfolding(crate::specs::steps::Attributes::array))]
+fn read_array(alloc: Global, cursor: &mut Cursor<'_>) -> Result<ArrayDecl, Misfit>
+    ensures { Gives (spec.array cursor.old) result cursor.new }
+{
+    let name = cursor.name()?;
+    let bounds = bounds(alloc, cursor)?;
+    Ok(ArrayDecl { name, bounds })
 }
 
-impl Item for ArrayDecl {
-    ghost use Rattle.spec_parse.specs.steps.Attributes as spec;
-
-    ghost reader = { spec.array };
-
-    #[tactic(auto, unfolding(crate::specs::steps::Attributes::array))]
-    fn read(alloc: Global, cursor: &mut Cursor<'_>) -> Result<ArrayDecl, Misfit> {
-        let name = cursor.name()?;
-        let bounds = bounds(alloc, cursor)?;
-        Ok(ArrayDecl { name, bounds })
-    }
+#[tactic(auto, unfolding(crate::specs::steps::Attributes::constant))]
+fn read_constant(alloc: Global, cursor: &mut Cursor<'_>) -> Result<NamedConstant, Misfit>
+    ensures { Gives (spec.constant cursor.old) result cursor.new }
+{
+    let name = cursor.name()?;
+    cursor.expect(Lexeme::Equals)?;
+    let value = read_expression(alloc, cursor)?;
+    Ok(NamedConstant { name, value })
 }
 
-impl Item for NamedConstant {
-    ghost use Rattle.spec_parse.specs.steps.Attributes as spec;
-
-    ghost reader = { spec.constant };
-
-    #[tactic(auto, unfolding(crate::specs::steps::Attributes::constant))]
-    fn read(alloc: Global, cursor: &mut Cursor<'_>) -> Result<NamedConstant, Misfit> {
-        let name = cursor.name()?;
-        cursor.expect(Lexeme::Equals)?;
-        let value = read_expression(alloc, cursor)?;
-        Ok(NamedConstant { name, value })
+#[tactic(auto, unfolding(crate::specs::steps::Attributes::save_item))]
+fn read_save_item(_alloc: Global, cursor: &mut Cursor<'_>) -> Result<SaveItem, Misfit>
+    ensures { Gives (spec.save_item cursor.old) result cursor.new }
+{
+    if !cursor.sees(Lexeme::Divide) {
+        return Ok(SaveItem::Variable(cursor.name()?));
     }
+    cursor.expect(Lexeme::Divide)?;
+    let name = cursor.name()?;
+    cursor.expect(Lexeme::Divide)?;
+    Ok(SaveItem::Block(name))
 }
 
-impl Item for SaveItem {
-    ghost use Rattle.spec_parse.specs.steps.Attributes as spec;
+fn read_arrays(alloc: Global, cursor: &mut Cursor<'_>) -> Result<(bool, Items<ArrayDecl>), Misfit>
+    ensures { Gives (lists.after_colons spec.array cursor.old) result cursor.new }
+{
+    after_colons(alloc, cursor, read_array)
+}
 
-    ghost reader = { spec.save_item };
+fn read_constants(alloc: Global, cursor: &mut Cursor<'_>) -> Result<Items<NamedConstant>, Misfit>
+    ensures { Gives (shared.separated spec.constant cursor.old) result cursor.new }
+{
+    separated(alloc, cursor, read_constant)
+}
 
-    #[tactic(auto, unfolding(crate::specs::steps::Attributes::save_item))]
-    fn read(_alloc: Global, cursor: &mut Cursor<'_>) -> Result<SaveItem, Misfit> {
-        if !cursor.sees(Lexeme::Divide) {
-            return Ok(SaveItem::Variable(cursor.name()?));
-        }
-        cursor.expect(Lexeme::Divide)?;
-        let name = cursor.name()?;
-        cursor.expect(Lexeme::Divide)?;
-        Ok(SaveItem::Block(name))
-    }
+fn read_save_items(
+    alloc: Global,
+    cursor: &mut Cursor<'_>,
+) -> Result<(bool, Items<SaveItem>), Misfit>
+    ensures { Gives (lists.items_or_none spec.save_item cursor.old) result cursor.new }
+{
+    items_or_none(alloc, cursor, read_save_item)
+}
+
+fn names_after_colons(alloc: Global, cursor: &mut Cursor<'_>) -> Result<(bool, Items<u32>), Misfit>
+    ensures { Gives (lists.after_colons input.name cursor.old) result cursor.new }
+{
+    after_colons(alloc, cursor, read_name)
+}
+
+fn names_or_none(alloc: Global, cursor: &mut Cursor<'_>) -> Result<(bool, Items<u32>), Misfit>
+    ensures { Gives (lists.items_or_none input.name cursor.old) result cursor.new }
+{
+    items_or_none(alloc, cursor, read_name)
 }
 
 /// Reads DIMENSION (5.2.5).
@@ -72,7 +87,7 @@ pub fn dimension(alloc: Global, cursor: &mut Cursor<'_>) -> Result<Form, Misfit>
     ensures { Gives (spec.dimension cursor.old) result cursor.new }
 {
     cursor.expect_word(b"dimension")?;
-    let (colons, arrays) = after_colons::<ArrayDecl>(alloc, cursor)?;
+    let (colons, arrays) = read_arrays(alloc, cursor)?;
     Ok(Form::Dimension { colons, arrays })
 }
 
@@ -83,7 +98,7 @@ pub fn parameter(alloc: Global, cursor: &mut Cursor<'_>) -> Result<Form, Misfit>
 {
     cursor.expect_word(b"parameter")?;
     cursor.expect(Lexeme::Open)?;
-    let constants = separated::<NamedConstant>(alloc, cursor)?;
+    let constants = read_constants(alloc, cursor)?;
     cursor.expect(Lexeme::Close)?;
     Ok(Form::Parameter { constants })
 }
@@ -94,7 +109,7 @@ pub fn save(alloc: Global, cursor: &mut Cursor<'_>) -> Result<Form, Misfit>
     ensures { Gives (spec.save cursor.old) result cursor.new }
 {
     cursor.expect_word(b"save")?;
-    let (colons, items) = items_or_none::<SaveItem>(alloc, cursor)?;
+    let (colons, items) = read_save_items(alloc, cursor)?;
     Ok(Form::Save { colons, items })
 }
 
@@ -104,7 +119,7 @@ pub fn access(alloc: Global, cursor: &mut Cursor<'_>) -> Result<Form, Misfit>
     ensures { Gives (spec.access cursor.old) result cursor.new }
 {
     let word = access_word(cursor)?;
-    let (colons, names) = items_or_none::<u32>(alloc, cursor)?;
+    let (colons, names) = names_or_none(alloc, cursor)?;
     Ok(Form::Access {
         word,
         colons,
@@ -118,7 +133,7 @@ pub fn external(alloc: Global, cursor: &mut Cursor<'_>) -> Result<Form, Misfit>
     ensures { Gives (spec.external cursor.old) result cursor.new }
 {
     let word = procedure_word(cursor)?;
-    let names = separated::<u32>(alloc, cursor)?;
+    let names = read_names(alloc, cursor)?;
     Ok(Form::External { word, names })
 }
 
@@ -129,7 +144,7 @@ pub fn intent(alloc: Global, cursor: &mut Cursor<'_>) -> Result<Form, Misfit>
 {
     cursor.expect_word(b"intent")?;
     let mode = paren_mode(cursor)?;
-    let (colons, names) = after_colons::<u32>(alloc, cursor)?;
+    let (colons, names) = names_after_colons(alloc, cursor)?;
     Ok(Form::Intent {
         mode,
         colons,

@@ -2,13 +2,14 @@
 
 ghost use Rattle.std.specs.Prelude.{◌≡◌};
 ghost use Rattle.spec_parse.specs.steps.Choices as lists;
-ghost use Rattle.expr_parse.specs.Input.{Gives};
+ghost use Rattle.expr_parse.specs.steps.Combinators as shared;
+ghost use Rattle.expr_parse.specs.steps.Input.{Gives};
 ghost use Rattle.spec_parse.specs.steps.Attributes as spec;
 
 use crate::bounds::bounds;
-use crate::list::Item;
-use expr_parse::{Cursor, Misfit};
+use expr_parse::{Cursor, Misfit, each_after_comma};
 use ftn_tree::{AccessWord, Attribute, AttributeKind, IntentMode, Lexeme, ProcedureWord};
+use sqlite_items::Items;
 use std::alloc::Global;
 
 /// Reads PUBLIC or PRIVATE.
@@ -126,15 +127,18 @@ fn attribute_kind(alloc: Global, cursor: &mut Cursor<'_>) -> Result<AttributeKin
     word_attribute(cursor)
 }
 
-impl Item for Attribute {
-    ghost use Rattle.spec_parse.specs.steps.Attributes as spec;
+#[tactic(auto, unfolding(crate::specs::steps::Attributes::attribute))]
+fn read_attribute(alloc: Global, cursor: &mut Cursor<'_>) -> Result<Attribute, Misfit>
+    ensures { Gives (spec.attribute cursor.old) result cursor.new }
+{
+    let token = cursor.at();
+    let kind = attribute_kind(alloc, cursor)?;
+    Ok(Attribute { token, kind })
+}
 
-    ghost reader = { spec.attribute };
-
-    #[tactic(auto, unfolding(crate::specs::steps::Attributes::attribute))]
-    fn read(alloc: Global, cursor: &mut Cursor<'_>) -> Result<Attribute, Misfit> {
-        let token = cursor.at();
-        let kind = attribute_kind(alloc, cursor)?;
-        Ok(Attribute { token, kind })
-    }
+/// Reads the attributes of a type declaration, each with its comma before it (5.1.2).
+pub fn read_attributes(alloc: Global, cursor: &mut Cursor<'_>) -> Result<Items<Attribute>, Misfit>
+    ensures { Gives (shared.each_after_comma spec.attribute cursor.old) result cursor.new }
+{
+    each_after_comma(alloc, cursor, read_attribute)
 }

@@ -2,11 +2,11 @@
 
 ghost use Rattle.std.specs.Prelude.{◌≡◌};
 ghost use Rattle.ftn_tree.specs.SpecificationForms as form;
-ghost use Rattle.expr_parse.specs.Input.{Gives};
+ghost use Rattle.expr_parse.specs.steps.Combinators as shared;
+ghost use Rattle.expr_parse.specs.steps.Input.{Gives};
 ghost use Rattle.spec_parse.specs.steps.Bounds as spec;
 
-use crate::list::{Item, separated};
-use expr_parse::{Cursor, Misfit, read_expression};
+use expr_parse::{Cursor, Misfit, read_expression, separated};
 use ftn_tree::{BoundPair, Expr, Lexeme};
 use sqlite_items::Items;
 use std::alloc::Global;
@@ -48,24 +48,26 @@ fn rest_of_bound(alloc: Global, cursor: &mut Cursor<'_>) -> Result<Option<Option
     Ok(Some(upper_bound(alloc, cursor)?))
 }
 
-impl Item for BoundPair {
-    ghost use Rattle.spec_parse.specs.steps.Bounds as spec;
-
-    ghost reader = { spec.bound };
-
-    #[tactic(auto, unfolding(crate::specs::steps::Bounds::bound))]
-    fn read(alloc: Global, cursor: &mut Cursor<'_>) -> Result<BoundPair, Misfit> {
-        if cursor.sees(Lexeme::Times) {
-            cursor.expect(Lexeme::Times)?;
-            return Ok(BoundPair {
-                low: None,
-                high: None,
-            });
-        }
-        let first = read_expression(alloc, cursor)?;
-        let rest = rest_of_bound(alloc, cursor)?;
-        Ok(pair_of(first, rest))
+#[tactic(auto, unfolding(crate::specs::steps::Bounds::bound))]
+fn read_bound(alloc: Global, cursor: &mut Cursor<'_>) -> Result<BoundPair, Misfit>
+    ensures { Gives (spec.bound cursor.old) result cursor.new }
+{
+    if cursor.sees(Lexeme::Times) {
+        cursor.expect(Lexeme::Times)?;
+        return Ok(BoundPair {
+            low: None,
+            high: None,
+        });
     }
+    let first = read_expression(alloc, cursor)?;
+    let rest = rest_of_bound(alloc, cursor)?;
+    Ok(pair_of(first, rest))
+}
+
+fn read_pairs(alloc: Global, cursor: &mut Cursor<'_>) -> Result<Items<BoundPair>, Misfit>
+    ensures { Gives (shared.separated spec.bound cursor.old) result cursor.new }
+{
+    separated(alloc, cursor, read_bound)
 }
 
 /// The most dimensions that an array has (5.1.2.4).
@@ -90,7 +92,7 @@ pub fn bounds(alloc: Global, cursor: &mut Cursor<'_>) -> Result<Items<BoundPair>
     ensures { Gives (spec.bounds cursor.old) result cursor.new }
 {
     cursor.expect(Lexeme::Open)?;
-    let pairs = separated::<BoundPair>(alloc, cursor)?;
+    let pairs = read_pairs(alloc, cursor)?;
     cursor.expect(Lexeme::Close)?;
     if !are_dimensions(pairs.as_slice()) {
         return Err(Misfit::NoFit);

@@ -1,12 +1,12 @@
 //! COMMON and EQUIVALENCE (Fortran 90, 5.5).
 
 ghost use Rattle.std.specs.Prelude.{◌≡◌};
-ghost use Rattle.expr_parse.specs.Input.{Gives};
+ghost use Rattle.expr_parse.specs.steps.Combinators as shared;
+ghost use Rattle.expr_parse.specs.steps.Input.{Gives};
 ghost use Rattle.spec_parse.specs.steps.Blocks as spec;
 
 use crate::bounds::maybe_bounds;
-use crate::list::{Item, separated};
-use expr_parse::{Cursor, Misfit, read_expression};
+use expr_parse::{Cursor, Misfit, read_expressions, separated};
 use ftn_tree::{BlockName, CommonGroup, CommonMember, Designator, Expr, Form, Lexeme};
 use sqlite_items::Items;
 use std::alloc::Global;
@@ -154,16 +154,6 @@ pub fn common(alloc: Global, cursor: &mut Cursor<'_>) -> Result<Form, Misfit>
     Ok(Form::Common { groups })
 }
 
-impl Item for Expr {
-    ghost use Rattle.expr_parse.specs.Reading as reading;
-
-    ghost reader = { reading.expression };
-
-    fn read(alloc: Global, cursor: &mut Cursor<'_>) -> Result<Expr, Misfit> {
-        read_expression(alloc, cursor)
-    }
-}
-
 #[tactic(auto, unfolding(crate::specs::steps::Blocks::subscripts))]
 fn subscripts(alloc: Global, cursor: &mut Cursor<'_>) -> Result<Option<Items<Expr>>, Misfit>
     ensures { Gives (spec.subscripts cursor.old) result cursor.new }
@@ -172,14 +162,13 @@ fn subscripts(alloc: Global, cursor: &mut Cursor<'_>) -> Result<Option<Items<Exp
         return Ok(None);
     }
     cursor.expect(Lexeme::Open)?;
-    let found = separated::<Expr>(alloc, cursor)?;
+    let found = read_expressions(alloc, cursor)?;
     cursor.expect(Lexeme::Close)?;
     Ok(Some(found))
 }
 
-/// Reads a name with its subscripts in parentheses, if a parenthesis follows it.
 #[tactic(auto, unfolding(crate::specs::steps::Blocks::designator))]
-pub fn designator(alloc: Global, cursor: &mut Cursor<'_>) -> Result<Designator, Misfit>
+fn read_designator(alloc: Global, cursor: &mut Cursor<'_>) -> Result<Designator, Misfit>
     ensures { Gives (spec.designator cursor.old) result cursor.new }
 {
     let name = cursor.name()?;
@@ -187,31 +176,30 @@ pub fn designator(alloc: Global, cursor: &mut Cursor<'_>) -> Result<Designator, 
     Ok(Designator { name, subscripts })
 }
 
-impl Item for Designator {
-    ghost use Rattle.spec_parse.specs.steps.Blocks as spec;
-
-    ghost reader = { spec.designator };
-
-    fn read(alloc: Global, cursor: &mut Cursor<'_>) -> Result<Designator, Misfit> {
-        designator(alloc, cursor)
-    }
+/// Reads one name or more, each with the subscripts in parentheses that may follow it, with commas between them.
+pub fn read_designators(alloc: Global, cursor: &mut Cursor<'_>) -> Result<Items<Designator>, Misfit>
+    ensures { Gives (shared.separated spec.designator cursor.old) result cursor.new }
+{
+    separated(alloc, cursor, read_designator)
 }
 
-impl Item for Items<Designator> {
-    ghost use Rattle.spec_parse.specs.steps.Blocks as spec;
-
-    ghost reader = { spec.equivalence_set };
-
-    #[tactic(auto, unfolding(crate::specs::steps::Blocks::equivalence_set))]
-    fn read(alloc: Global, cursor: &mut Cursor<'_>) -> Result<Items<Designator>, Misfit> {
-        cursor.expect(Lexeme::Open)?;
-        let found = separated::<Designator>(alloc, cursor)?;
-        cursor.expect(Lexeme::Close)?;
-        if found.len() < 2 {
-            return Err(Misfit::NoFit);
-        }
-        Ok(found)
+#[tactic(auto, unfolding(crate::specs::steps::Blocks::equivalence_set))]
+fn read_set(alloc: Global, cursor: &mut Cursor<'_>) -> Result<Items<Designator>, Misfit>
+    ensures { Gives (spec.equivalence_set cursor.old) result cursor.new }
+{
+    cursor.expect(Lexeme::Open)?;
+    let found = read_designators(alloc, cursor)?;
+    cursor.expect(Lexeme::Close)?;
+    if found.len() < 2 {
+        return Err(Misfit::NoFit);
     }
+    Ok(found)
+}
+
+fn read_sets(alloc: Global, cursor: &mut Cursor<'_>) -> Result<Items<Items<Designator>>, Misfit>
+    ensures { Gives (shared.separated spec.equivalence_set cursor.old) result cursor.new }
+{
+    separated(alloc, cursor, read_set)
 }
 
 /// Reads EQUIVALENCE (5.5.1).
@@ -220,6 +208,6 @@ pub fn equivalence(alloc: Global, cursor: &mut Cursor<'_>) -> Result<Form, Misfi
     ensures { Gives (spec.equivalence cursor.old) result cursor.new }
 {
     cursor.expect_word(b"equivalence")?;
-    let sets = separated::<Items<Designator>>(alloc, cursor)?;
+    let sets = read_sets(alloc, cursor)?;
     Ok(Form::Equivalence { sets })
 }

@@ -1,10 +1,10 @@
 //! DATA (Fortran 90, 5.2.9).
 
 ghost use Rattle.std.specs.Prelude.{◌≡◌};
-ghost use Rattle.expr_parse.specs.Input.{Gives};
+ghost use Rattle.expr_parse.specs.steps.Input.{Gives};
 ghost use Rattle.spec_parse.specs.steps.Data as spec;
 
-use crate::common::designator;
+use crate::common::read_designators;
 use crate::implicits::read_whole_number;
 use expr_parse::{Cursor, Misfit, constant, separated};
 use ftn_tree::{DataConstant, DataGroup, DataValue, Designator, Expr, Form, Lexeme, Repeat, Sign};
@@ -123,12 +123,6 @@ fn read_value(alloc: Global, cursor: &mut Cursor<'_>) -> Result<DataValue, Misfi
     })
 }
 
-fn read_objects(alloc: Global, cursor: &mut Cursor<'_>) -> Result<Items<Designator>, Misfit>
-    ensures { Gives (spec.objects cursor.old) result cursor.new }
-{
-    separated(alloc, cursor, designator)
-}
-
 fn read_values(alloc: Global, cursor: &mut Cursor<'_>) -> Result<Items<DataValue>, Misfit>
     ensures { Gives (spec.values cursor.old) result cursor.new }
 {
@@ -142,7 +136,7 @@ fn read_pairing(
 ) -> Result<(Items<Designator>, Items<DataValue>), Misfit>
     ensures { Gives (spec.pairing cursor.old) result cursor.new }
 {
-    let objects = read_objects(alloc, cursor)?;
+    let objects = read_designators(alloc, cursor)?;
     cursor.expect(Lexeme::Divide)?;
     let values = read_values(alloc, cursor)?;
     cursor.expect(Lexeme::Divide)?;

@@ -3,7 +3,7 @@
 ghost use Rattle.std.specs.Prelude.{◌≡◌};
 ghost use Rattle.ftn_tree.specs.Lexemes.{is_text};
 ghost use Rattle.ftn_tree.specs.UnitForms as form;
-ghost use Rattle.expr_parse.specs.Input.{Gives};
+ghost use Rattle.expr_parse.specs.steps.Input.{Gives};
 ghost use Rattle.spec_parse.specs.steps.Endings as spec;
 
 use expr_parse::{Cursor, Misfit};

@@ -1,7 +1,7 @@
 //! IMPLICIT statements (Fortran 90, 5.3).
 
 ghost use Rattle.std.specs.Prelude.{◌≡◌};
-ghost use Rattle.expr_parse.specs.Input.{Gives};
+ghost use Rattle.expr_parse.specs.steps.Input.{Gives};
 ghost use Rattle.spec_parse.specs.steps.Implicits as spec;
 
 use expr_parse::{Cursor, Misfit, constant, separated};

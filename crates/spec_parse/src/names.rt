@@ -1,30 +1,23 @@
 //! Lists of names.
 
-ghost use Rattle.expr_parse.specs.Input.{Gives};
-ghost use Rattle.expr_parse.specs.Input as input;
+ghost use Rattle.expr_parse.specs.steps.Input.{Gives};
+ghost use Rattle.expr_parse.specs.steps.Input as input;
 ghost use Rattle.spec_parse.specs.steps.Names as spec;
 
-use expr_parse::{Cursor, Misfit, separated};
+use expr_parse::{Cursor, Misfit, read_names};
 use ftn_tree::Lexeme;
 use sqlite_items::Items;
 use std::alloc::Global;
 
-fn read_name(_alloc: Global, cursor: &mut Cursor<'_>) -> Result<u32, Misfit>
+/// Reads a name, and gives the number of its token.
+pub fn read_name(_alloc: Global, cursor: &mut Cursor<'_>) -> Result<u32, Misfit>
     ensures { Gives (input.name cursor.old) result cursor.new }
 {
     cursor.name()
 }
 
-/// Reads one name or more, with commas between them.
-#[tactic(auto, unfolding(crate::specs::steps::Names::names))]
-pub fn read_names(alloc: Global, cursor: &mut Cursor<'_>) -> Result<Items<u32>, Misfit>
-    ensures { Gives (spec.names cursor.old) result cursor.new }
-{
-    separated(alloc, cursor, read_name)
-}
-
 /// Reads the dummy arguments in their parentheses (Fortran 90, 12.5.2).
-#[tactic(auto, unfolding(crate::specs::steps::Names::dummies, crate::specs::steps::Names::names))]
+#[tactic(auto, unfolding(crate::specs::steps::Names::dummies))]
 pub fn read_dummies(alloc: Global, cursor: &mut Cursor<'_>) -> Result<Items<u32>, Misfit>
     ensures { Gives (spec.dummies cursor.old) result cursor.new }
 {

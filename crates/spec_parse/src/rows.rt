@@ -2,8 +2,8 @@
 
 ghost use Rattle.std.specs.Prelude.{◌≡◌};
 ghost use Rattle.ftn_tree.specs.Lexemes.{is_text};
-ghost use Rattle.expr_parse.specs.Input.{Gives};
-ghost use Rattle.expr_parse.specs.Combinators.{to_the_end};
+ghost use Rattle.expr_parse.specs.steps.Input.{Gives};
+ghost use Rattle.expr_parse.specs.steps.Combinators.{to_the_end};
 ghost use Rattle.spec_parse.specs.steps.Rows as spec;
 
 use crate::attribute_statements::{access, dimension, external, intent, parameter, save};
@@ -206,8 +206,7 @@ fn read_to_the_end(alloc: Global, cursor: &mut Cursor<'_>, row: Row) -> Result<F
     ensures { Gives (to_the_end (spec.row_reader row) cursor.old) result cursor.new }
 {
     let form = read_row(alloc, cursor, row)?;
-    cursor.finish()?;
-    Ok(form)
+    cursor.finish_with(form)
 }
 
 /// Reads a statement that is all that is left, by its first word alone: whether it is an assignment is not asked.

@@ -1,8 +1,10 @@
 //! All statements of this crate.
 
+ghost use Rattle.std.specs.Prelude.{◌≡◌, false};
+ghost use Rattle.ftn_tree.specs.Assignments as shapes;
 ghost use Rattle.ftn_tree.specs.Specifications.{is_specification};
-ghost use Rattle.expr_parse.specs.Exact.{IsExact};
-ghost use Rattle.expr_parse.specs.Input.{tokens_in};
+ghost use Rattle.expr_parse.specs.Exact.{IsExact, IsFitting};
+ghost use Rattle.expr_parse.specs.steps.Input.{tokens_in};
 
 use crate::rows::read_statement;
 use expr_parse::{Cursor, Misfit, StatementFault, is_assignment, is_deep, misfit};
@@ -26,9 +28,19 @@ pub fn specification(alloc: Global, tokens: &Tokens, at: Range) -> Result<Form, 
         let fault = misfit(all);
         return Err(fault);
     }
-    match read_statement(alloc, &mut cursor) {
+    match fitting_specification(alloc, &mut cursor) {
         Ok(form) => Ok(form),
         Err(Misfit::NoMemory) => Err(StatementFault::NoMemory),
         Err(Misfit::NoFit) => Err(misfit(all)),
     }
+}
+
+/// The statement of those that [`specification`] reads that exactly the tokens left are; they are no assignment by their shape. It
+/// fails with [`Misfit::NoFit`] where they are none. Neither the reason nor how deep parentheses nest is looked for: test depth by
+/// [`is_deep`] first.
+pub fn fitting_specification(alloc: Global, cursor: &mut Cursor<'_>) -> Result<Form, Misfit>
+    requires { shapes.is_assignment cursor.old.rest ≡ false }
+    ensures { IsFitting is_specification cursor.old.at cursor.old.rest result }
+{
+    read_statement(alloc, cursor)
 }

@@ -1,7 +1,7 @@
 //! The type that a declaration writes (Fortran 90, 5.1.1).
 
 ghost use Rattle.std.specs.Prelude.{◌≡◌};
-ghost use Rattle.expr_parse.specs.Input.{Gives};
+ghost use Rattle.expr_parse.specs.steps.Input.{Gives};
 ghost use Rattle.spec_parse.specs.steps.Types as spec;
 
 use expr_parse::{Cursor, Misfit, read_expression};

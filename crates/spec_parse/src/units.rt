@@ -1,12 +1,13 @@
 //! Statements that begin program units, procedures and interface blocks, and CONTAINS (Fortran 90, 11, 12.3.2.1, 12.5.2).
 
 ghost use Rattle.std.specs.Prelude.{◌≡◌};
-ghost use Rattle.expr_parse.specs.Input.{Gives};
+ghost use Rattle.expr_parse.specs.steps.Input.{Gives};
 ghost use Rattle.spec_parse.specs.steps.Units as spec;
 
-use crate::names::{read_dummies, read_names};
-use expr_parse::{Cursor, Misfit};
+use crate::names::read_dummies;
+use expr_parse::{Cursor, Misfit, read_names};
 use ftn_tree::{Form, Lexeme, Token, TypeSpec};
+use sqlite_items::Items;
 use std::alloc::Global;
 
 #[tactic(auto, unfolding(crate::specs::steps::Units::block_words))]
@@ -113,14 +114,13 @@ fn read_result_name(cursor: &mut Cursor<'_>) -> Result<u32, Misfit>
     Ok(name)
 }
 
-/// `FUNCTION name ( [dummy, ..] ) [RESULT ( name )]`, after the type if one is written (12.5.2.2).
-#[tactic(auto, unfolding(crate::specs::steps::Units::function, crate::specs::steps::Units::function_parts))]
-pub fn read_function(
+/// The name, the dummy arguments and the name of the result.
+#[tactic(auto, unfolding(crate::specs::steps::Units::function_parts))]
+fn read_function_parts(
     alloc: Global,
     cursor: &mut Cursor<'_>,
-    ty: Option<TypeSpec>,
-) -> Result<Form, Misfit>
-    ensures { Gives (spec.function ty cursor.old) result cursor.new }
+) -> Result<(u32, (Items<u32>, Option<u32>)), Misfit>
+    ensures { Gives (spec.function_parts cursor.old) result cursor.new }
 {
     cursor.expect_word(b"function")?;
     let name = cursor.name()?;
@@ -130,6 +130,19 @@ pub fn read_function(
     } else {
         None
     };
+    Ok((name, (dummies, result)))
+}
+
+/// `FUNCTION name ( [dummy, ..] ) [RESULT ( name )]`, after the type if one is written (12.5.2.2).
+#[tactic(auto, unfolding(crate::specs::steps::Units::function))]
+pub fn read_function(
+    alloc: Global,
+    cursor: &mut Cursor<'_>,
+    ty: Option<TypeSpec>,
+) -> Result<Form, Misfit>
+    ensures { Gives (spec.function ty cursor.old) result cursor.new }
+{
+    let (name, (dummies, result)) = read_function_parts(alloc, cursor)?;
     Ok(Form::Function {
         ty,
         name,

@@ -1,7 +1,7 @@
 //! USE statements (Fortran 90, 11.3.2).
 
 ghost use Rattle.std.specs.Prelude.{◌≡◌};
-ghost use Rattle.expr_parse.specs.Input.{Gives};
+ghost use Rattle.expr_parse.specs.steps.Input.{Gives};
 ghost use Rattle.spec_parse.specs.steps.Uses as spec;
 
 use expr_parse::{Cursor, Misfit, each_after_comma, separated};

@@ -1,7 +1,7 @@
 -- Without a tie, or without a member, no fault is there.
 use Rattle.std.proofs.Common.{zero, ◌≡◌, ◌≢◌, ℕ, ◌<◌, ℤ, pos, neg_ℤ, ◌+ℤ◌, ◌<ℤ◌, List, [], ◌∷◌, ◌++◌, ◌⊎◌, inl, inr, Bool, true, false, Contains, AllPairs, filter, nat_eq, nat_lt, length, get_or, refl, sym, ◌∙◌, subst, ap, arith}
 use Rattle.std.proofs.lemmas.Int.{ints}
-use Rattle.std.proofs.lemmas.List.{get_or_default}
+use Rattle.std.proofs.lemmas.List.{get_or_default, append-nil}
 use Rattle.std.proofs.lemmas.List.Kept.{AllPairs-filter}
 use Rattle.std.proofs.lemmas.Bool.{ltb-true, ltb-false}
 use Rattle.ftn_base.specs.Storage.{Thing, Link, object, block, member_link, Leads, AreOneUnit}
@@ -16,11 +16,10 @@ use Rattle.storage_layout.specs.declared.kind.Kind.TheVariants as kind
 use Rattle.storage_layout.specs.steps.Kept.{AreKept, sizes_in}
 use Rattle.storage_layout.specs.steps.Held.{Holds}
 use Rattle.storage_layout.proofs.Potential.{either, cons_cases, cons_more, place_in, walk_places}
-use Rattle.storage_layout.proofs.Conflict.{link_none}
 use Rattle.storage_layout.proofs.Laid.{no_object, one_block}
 
 no_tie : (sizes : List ℕ) (members : List Member) → links sizes members [] ≡ list_links sizes members
-no_tie sizes members = link_none (list_links sizes members)
+no_tie sizes members = append-nil (list_links sizes members)
 
 module _ (sizes : List ℕ) (members : List Member) (once : AllPairs (λ earlier later. earlier.object ≢ later.object) members) where
   pub none_extended : IsExtended sizes members [] → ⊥

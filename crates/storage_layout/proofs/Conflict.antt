@@ -1,10 +1,10 @@
 -- The first of the kept ties that contradicts those before it is a tie that was given, and the first such one.
 use Rattle.std.proofs.Common.{suc, ◌≡◌, ◌≢◌, ℕ, ◌+◌, ◌-◌, ◌<◌, ◌≤◌, List, [], ◌∷◌, ◌++◌, Bool, true, false, Contains, All, AllPairs, take, drop, nat_lt, length, refl, sym, ◌∙◌, subst, ap, arith}
-use Rattle.std.proofs.lemmas.List.{length-append, take-append-le, take-append-drop}
+use Rattle.std.proofs.lemmas.List.{length-append, take-append-le, take-append-drop, append-nil}
 use Rattle.std.proofs.lemmas.List.Elements.{Contains-append_left, All-take}
 use Rattle.std.proofs.lemmas.Bool.{ltb-true, ltb-false}
 use Rattle.ftn_base.specs.declared.entity.Tie.{Tie}
-use Rattle.ftn_base.specs.Storage.{Link, IsContradicted, tie_links}
+use Rattle.ftn_base.specs.Storage.{IsContradicted, tie_links}
 use Rattle.ftn_base.proofs.WalkLaws.{leads_more}
 use Rattle.ftn_base.specs.declared.storage.Member.{Member}
 use Rattle.ftn_base.specs.StorageMembers.{list_links, links}
@@ -18,14 +18,6 @@ pub take_past : {X : Type 0} (xs ys : List X) (n : ℕ) → take (length xs + n)
 take_past {X = X} [] ys n = let none : length {A = X} [] + n ≡ n = omega arith in ap (λ (k : ℕ). take k ys) none
 take_past {X = X} (x ∷ xs) ys n = let more : length (x ∷ xs) + n ≡ suc (length xs + n) = omega arith in
     ap (λ (k : ℕ). take k (x ∷ (xs ++ ys))) more ∙ ap (λ (rest : List X). x ∷ rest) (take_past xs ys n)
-
-append_none : (ties : List Tie) → ties ++ [] ≡ ties
-append_none [] = refl
-append_none (tie ∷ ties) = ap (λ (rest : List Tie). tie ∷ rest) (append_none ties)
-
-pub link_none : (list : List Link) → list ++ [] ≡ list
-link_none [] = refl
-link_none (link ∷ list) = ap (λ (rest : List Link). link ∷ rest) (link_none list)
 
 pub fewer : (some more : List Tie) → IsContradicted (tie_links some) → IsContradicted (tie_links (some ++ more))
 fewer some more bad = record {
@@ -49,8 +41,8 @@ module _ (names sizes : List ℕ) (members : List Member) (given member_ties : L
   -- the ties of members alone do not contradict each other
   members_agree : IsContradicted (tie_links member_ties) → ⊥
   members_agree bad =
-      let with_none : IsContradicted (tie_links (member_ties ++ [])) = subst (λ (ties : List Tie). IsContradicted (tie_links ties)) (sym (append_none member_ties)) bad in
-      lists_agree sizes members once (subst IsContradicted (link_none (list_links sizes members)) (contradicts_back names sizes members [] member_ties are none_known there with_none))
+      let with_none : IsContradicted (tie_links (member_ties ++ [])) = subst (λ (ties : List Tie). IsContradicted (tie_links ties)) (sym (append-nil member_ties)) bad in
+      lists_agree sizes members once (subst IsContradicted (append-nil (list_links sizes members)) (contradicts_back names sizes members [] member_ties are none_known there with_none))
 
   pub conflict : (number : ℕ) → number < length (member_ties ++ given) → (IsContradicted (tie_links (take number (member_ties ++ given))) → ⊥) → IsContradicted (tie_links (take (number + 1) (member_ties ++ given)))
       → (length member_ties ≤ number) × IsFirst (λ some. IsContradicted (links sizes members some)) given (number - length member_ties)

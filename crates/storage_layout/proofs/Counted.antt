@@ -1,10 +1,11 @@
 -- Members, blocks and their units are few, since each object stands once among the members.
-use Rattle.std.proofs.Common.{zero, suc, ◌≡◌, ◌≢◌, ℕ, ◌+◌, ◌<◌, ◌≤◌, ◌^◌, List, [], ◌∷◌, ◌++◌, Bool, true, false, All, AllPairs, map, filter, take, sum, set, length, get_or, refl, sym, ◌∙◌, ap, arith}
+use Rattle.std.proofs.Common.{zero, suc, ◌≡◌, ◌≢◌, ℕ, ◌+◌, ◌<◌, ◌≤◌, List, [], ◌∷◌, ◌++◌, Bool, true, false, All, AllPairs, map, filter, take, sum, set, length, get_or, refl, sym, ◌∙◌, ap, arith}
 use Rattle.std.specs.List.{sum_by}
 use Rattle.std.proofs.lemmas.Bool.Decides.{nat_tests}
 use Rattle.std.proofs.lemmas.List.{get_or-set_other, length-set, take_more}
 use Rattle.std.proofs.lemmas.List.Elements.{All-head, All-tail}
 use Rattle.std.proofs.lemmas.List.Sums.{sum_by-set, sum_by-cons, sum-map, sum_by-take-le}
+use Rattle.ftn_base.specs.Limits.{most_units_of_all}
 use Rattle.ftn_base.specs.declared.storage.Member.{Member}
 use Rattle.ftn_base.specs.StorageMembers.{is_in, units_in}
 use Rattle.storage_layout.specs.steps.Numbered.{AreNames}
@@ -73,20 +74,20 @@ module _ (sizes : List ℕ) (members : List Member) (are : AreMembers sizes memb
       let le : sum_by (unit_of sizes) (take k members) ≤ sum_by (unit_of sizes) members = sum_by-take-le (unit_of sizes) members k in
       omega arith
 
-  pub objects_few : length sizes ≤ 2 ^ 24
-  objects_few = let le : length sizes ≤ sum sizes = length_least sizes are.filled in let small : sum sizes ≤ 2 ^ 24 = are.small in omega arith
+  pub objects_few : length sizes ≤ most_units_of_all
+  objects_few = let le : length sizes ≤ sum sizes = length_least sizes are.filled in let small : sum sizes ≤ most_units_of_all = are.small in omega arith
 
-  pub names_few : (k : ℕ) (names block_sizes : List ℕ) → AreNames sizes (take k members) names block_sizes → length names ≤ 2 ^ 24
+  pub names_few : (k : ℕ) (names block_sizes : List ℕ) → AreNames sizes (take k members) names block_sizes → length names ≤ most_units_of_all
   names_few k names block_sizes names_are =
       let sized : length block_sizes ≡ length names = names_are.sized in
       let le : length block_sizes ≤ sum block_sizes = length_least block_sizes (λ i lt. names_are.filled i (omega arith)) in
       let sums : sum block_sizes ≤ sum (map (unit_of sizes) (take k members)) = names_are.small in
       let part = part_sum k in
-      let small : sum sizes ≤ 2 ^ 24 = are.small in
+      let small : sum sizes ≤ most_units_of_all = are.small in
       omega arith
 
   pub end_few : (k : ℕ) (d : Member) → k < length members
-      → units_in sizes (take k members) (get_or members k d).block (get_or members k d).scope + get_or sizes (get_or members k d).object 0 ≤ 2 ^ 24
+      → units_in sizes (take k members) (get_or members k d).block (get_or members k d).scope + get_or sizes (get_or members k d).object 0 ≤ most_units_of_all
   end_few k d lt =
       let member : Member = get_or members k d in
       let same : is_in (get_or members k d).block (get_or members k d).scope (get_or members k d) ≡ true = is_own (get_or members k d) in
@@ -97,7 +98,7 @@ module _ (sizes : List ℕ) (members : List Member) (are : AreMembers sizes memb
       ap (λ (ms : List Member). units_in sizes ms (get_or members k d).block (get_or members k d).scope) (take_more members k d lt) in
       let le = units_le sizes (take (k + 1) members) (get_or members k d).block (get_or members k d).scope in
       let part = part_sum (k + 1) in
-      let small : sum sizes ≤ 2 ^ 24 = are.small in
+      let small : sum sizes ≤ most_units_of_all = are.small in
       omega (arith, more, next, le, part, small)
     where
       is_own : (m : Member) → is_in m.block m.scope m ≡ true

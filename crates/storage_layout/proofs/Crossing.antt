@@ -2,15 +2,12 @@
 use Rattle.std.proofs.Common.{◌≡◌, ◌≢◌, ℕ, ◌<◌, ◌≤◌, max, List, [], ◌∷◌, ◌++◌, Bool, true, false, Option, Some, cond, nat_eq, length, set, take, slice_get, refl, sym, ◌∙◌, subst, ap, arith}
 use Rattle.std.proofs.lemmas.Bool.Decides.{nat_tests}
 use Rattle.std.proofs.lemmas.List.{length-set, get_or-set_other, get_or-set_same}
-use Rattle.std.proofs.lemmas.Option.{slice_get_within, slice_get-get_or}
+use Rattle.std.proofs.lemmas.Option.{slice_get_within, slice_get-get_or, same_Some}
 use Rattle.ftn_base.specs.declared.entity.Sort.{Sort}
 use Rattle.storage_layout.specs.declared.span.Span.{Span}
 use Rattle.storage_layout.specs.declared.reaches.Reaches.{Reaches}
 use Rattle.storage_layout.specs.steps.Reaching.{against_of, is_other, further}
 use Rattle.storage_layout.specs.steps.Mixing.{reach_over, against_at, IsKept, IsCrossed, HasCrossing}
-
-some_same : (a b : Span) → Some a ≡ Some b → a ≡ b
-some_same a b e = cc e
 
 -- ---- one span more
 
@@ -89,7 +86,7 @@ module _ (reaches : List Reaches) (spans : List Span) (number : ℕ) (span : Spa
 
   pub not_crossed : against_of before span.sort span.group ≤ span.start → IsCrossed spans number → ⊥
   not_crossed past crossed =
-      let same : crossed.span ≡ span = some_same crossed.span span (sym crossed.there ∙ here) in
+      let same : crossed.span ≡ span = same_Some crossed.span span (sym crossed.there ∙ here) in
       let less : span.start < reach_over (take number spans) span.class span.sort span.group = subst (λ (s : Span). s.start < reach_over (take number spans) s.class s.sort s.group) same crossed.before in
       let e = told in
       omega (arith, less, e, past)

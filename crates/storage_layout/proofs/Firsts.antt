@@ -3,13 +3,10 @@ use Rattle.std.proofs.Common.{◌≡◌, ◌≢◌, ℕ, ◌+◌, List, [], ◌�
 use Rattle.std.specs.Option.{unwrap_or, option_map}
 use Rattle.std.proofs.lemmas.List.{take_more, take-append-drop, append-nil}
 use Rattle.std.proofs.lemmas.List.Elements.{filter-append}
-use Rattle.std.proofs.lemmas.Option.{slice_get_within, get_or_from_slice_get}
+use Rattle.std.proofs.lemmas.Option.{slice_get_within, get_or_from_slice_get, same_Some}
 use Rattle.std.proofs.lemmas.Bool.{eqb-true, eq-eqb}
 use Rattle.ftn_base.specs.declared.storage.BlockList.{BlockList}
 use Rattle.storage_layout.specs.steps.Ends.{lists_of, first_of, IsUneven}
-
-some_list : (a b : BlockList) → Some a ≡ Some b → a ≡ b
-some_list a b e = cc e
 
 one_kept : (number : ℕ) (list : BlockList) → nat_eq list.block number ≡ true → lists_of number (list ∷ []) ≡ list ∷ []
 one_kept number list e = ap (λ (b : Bool). cond b (list ∷ []) []) e
@@ -70,8 +67,8 @@ module _ (blocks : List BlockList) (end : ℕ → ℕ → ℕ) (number : ℕ) (l
   pub uneven_is : IsUneven blocks end number → (list.named ≡ true) × (end list.block list.scope ≢ end list.block first)
   uneven_is is =
       let found = first_list blocks number list there in
-      let one : is.list ≡ list = some_list is.list list (sym is.there ∙ there) in
-      let one_first : is.first ≡ found.0 = some_list is.first found.0 (sym is.first_there ∙ ap (λ (l : BlockList). slice_get (lists_of l.block blocks) 0) one ∙ found.1) in (
+      let one : is.list ≡ list = same_Some is.list list (sym is.there ∙ there) in
+      let one_first : is.first ≡ found.0 = same_Some is.first found.0 (sym is.first_there ∙ ap (λ (l : BlockList). slice_get (lists_of l.block blocks) 0) one ∙ found.1) in (
         subst (λ (l : BlockList). l.named ≡ true) one is.named,
         λ same. subst (λ (l : BlockList). end l.block l.scope ≢ end l.block is.first.scope) one is.apart
             (same ∙ ap (end list.block) (is_first ∙ sym found.2 ∙ ap (λ (l : BlockList). l.scope) (sym one_first))),

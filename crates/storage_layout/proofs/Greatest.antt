@@ -1,17 +1,12 @@
 -- The greatest end of members, with one member more.
 use Rattle.std.proofs.Common.{◌≡◌, ℕ, ◌+◌, ◌<◌, ◌≤◌, max, ◌⊎◌, inl, inr, Bool, true, false, ◌&&◌, cond, List, nat_eq, nat_lt, Some, slice_get, refl, sym, ◌∙◌, subst, ap, arith}
 use Rattle.std.proofs.lemmas.Bool.{ltb-true, ltb-false, eqb-true, eq-eqb}
+use Rattle.std.proofs.lemmas.Option.{same_Some}
 use Rattle.ftn_base.specs.declared.entity.Tie.{Tie}
 use Rattle.ftn_base.specs.declared.storage.Member.{Member}
 use Rattle.storage_layout.specs.steps.Ends.{last_of, IsEndOf, IsGreatest}
 use Rattle.storage_layout.proofs.Numbers.{lt_split}
 use Rattle.storage_layout.proofs.Start.{clash}
-
-some_member : (a b : Member) → Some a ≡ Some b → a ≡ b
-some_member a b e = cc e
-
-some_tie : (a b : Tie) → Some a ≡ Some b → a ≡ b
-some_tie a b e = cc e
 
 module _ (members : List Member) (ties : List Tie) (class offset size : List ℕ) (count : ℕ) (member : Member) (tie : Tie) (here : slice_get members count ≡ Some member) (tie_here : slice_get ties count ≡ Some tie)
     (number scope end : ℕ) (greatest : IsGreatest members ties class offset size count number scope end) where
@@ -21,11 +16,11 @@ module _ (members : List Member) (ties : List Tie) (class offset size : List ℕ
   -- what the member at hand tells
   is_last : (at other : ℕ) → at ≡ count → IsEndOf members ties class offset size number scope at other → other ≡ last_of class offset size tie
   is_last at other same is =
-      sym is.last ∙ ap (last_of class offset size) (some_tie is.tie tie (sym is.tie_there ∙ ap (slice_get ties) same ∙ tie_here))
+      sym is.last ∙ ap (last_of class offset size) (same_Some is.tie tie (sym is.tie_there ∙ ap (slice_get ties) same ∙ tie_here))
 
   of_block : (at other : ℕ) → at ≡ count → IsEndOf members ties class offset size number scope at other → (member.block ≡ number) × (member.scope ≡ scope)
   of_block at other same is =
-      let one : is.member ≡ member = some_member is.member member (sym is.there ∙ ap (slice_get members) same ∙ here) in
+      let one : is.member ≡ member = same_Some is.member member (sym is.there ∙ ap (slice_get members) same ∙ here) in
       (subst (λ (m : Member). m.block ≡ number) one is.of_block, subst (λ (m : Member). m.scope ≡ scope) one is.in_scope)
 
   earlier : (at other : ℕ) → (at < count) × IsEndOf members ties class offset size number scope at other → (at < count + 1) × IsEndOf members ties class offset size number scope at other

@@ -7,6 +7,7 @@ use Rattle.std.proofs.lemmas.List.{length-append, append_assoc, get_or-map, get_
 use Rattle.std.proofs.lemmas.List.Elements.{All-nil, All-cons, All-append, All-weaker, All-head, All-tail, filter-append}
 use Rattle.std.proofs.lemmas.List.Sums.{passes_at_first, sum_by-append}
 use Rattle.std.proofs.lemmas.Bool.{eqb-true}
+use Rattle.ftn_base.specs.Limits.{most_units_of_all}
 use Rattle.ftn_base.specs.declared.entity.Tie.{Tie}
 use Rattle.ftn_base.specs.declared.entity.Sort.TheVariants as sort
 use Rattle.ftn_base.specs.Storage.{IsWithin}
@@ -35,15 +36,15 @@ is_there None scope e = absurd (no_some scope e)
     no_some k e = cc e
 is_there (Some object) scope e = (object, refl)
 
-not_past : (sizes : List ℕ) → AreSmall sizes → sum sizes ≤ 2 ^ 24
+not_past : (sizes : List ℕ) → AreSmall sizes → sum sizes ≤ most_units_of_all
 not_past [] small = omega arith
-not_past (x ∷ xs) small = by_case (nat_lt (2 ^ 24) (sum (x ∷ xs))) refl
+not_past (x ∷ xs) small = by_case (nat_lt most_units_of_all (sum (x ∷ xs))) refl
   where
-    by_case : (b : Bool) → nat_lt (2 ^ 24) (sum (x ∷ xs)) ≡ b → sum (x ∷ xs) ≤ 2 ^ 24
+    by_case : (b : Bool) → nat_lt most_units_of_all (sum (x ∷ xs)) ≡ b → sum (x ∷ xs) ≤ most_units_of_all
     by_case true e =
-        let more : 2 ^ 24 < sum (x ∷ xs) = grind (arith, nat_tests) in
+        let more : most_units_of_all < sum (x ∷ xs) = grind (arith, nat_tests) in
         let all : take (length xs + 1) (x ∷ xs) ≡ x ∷ xs = take_all (length xs + 1) (x ∷ xs) (omega arith) in
-        absurd (small (length xs) (omega arith) (inr (subst (λ (list : List ℕ). 2 ^ 24 < sum list) (sym all) more)))
+        absurd (small (length xs) (omega arith) (inr (subst (λ (list : List ℕ). most_units_of_all < sum list) (sym all) more)))
     by_case false e = grind (arith, nat_tests)
 
 pub members_of_given : (objects : List Object) (blocks : List BlockList) (ties : List Tie) → AreGiven objects blocks ties → AreSmall (sizes_of objects) → AreMembers (sizes_of objects) (all_members blocks)
@@ -132,8 +133,8 @@ pub linkable : (sizes names block_sizes : List ℕ) (members : List Member) (giv
     → length members + length given < 2 ^ 32 → AreLinkable (sizes ++ block_sizes) (member_ties ++ given)
 linkable sizes names block_sizes members given member_ties are tied within few =
     let names_are : AreNames sizes members names block_sizes = tied.names_are in
-    let objects : length sizes ≤ 2 ^ 24 = objects_few sizes members are in
-    let small : sum sizes ≤ 2 ^ 24 = are.small in
+    let objects : length sizes ≤ most_units_of_all = objects_few sizes members are in
+    let small : sum sizes ≤ most_units_of_all = are.small in
     let sums : sum block_sizes ≤ sum (map (λ m. get_or sizes m.object 0) members) = names_are.small in
     let part : sum (map (λ m. get_or sizes m.object 0) (take (length members) members)) ≤ sum sizes = part_sum sizes members are (length members) in
     let whole : sum (map (λ m. get_or sizes m.object 0) (take (length members) members)) ≡ sum (map (λ m. get_or sizes m.object 0) members) = ap (λ (ms : List Member). sum (map (λ m. get_or sizes m.object 0) ms)) (take_all (length members) members (omega arith)) in

@@ -2,7 +2,7 @@
 use Rattle.std.proofs.Common.{zero, ◌≡◌, ◌≢◌, ℕ, ◌+◌, ◌-◌, ◌<◌, ◌≤◌, max, List, [], ◌∷◌, Bool, true, false, Some, Contains, All, cond, nat_eq, nat_lt, length, take, get_or, slice_get, refl, sym, ◌∙◌, subst, ap, arith}
 use Rattle.std.proofs.lemmas.List.{get_or-take, length-take-le}
 use Rattle.std.proofs.lemmas.List.Elements.{All-contains, All-get_or}
-use Rattle.std.proofs.lemmas.Option.{slice_get_within, slice_get-get_or, get_or_from_slice_get}
+use Rattle.std.proofs.lemmas.Option.{slice_get_within, slice_get-get_or, get_or_from_slice_get, same_Some}
 use Rattle.std.proofs.lemmas.Bool.{ltb-true, ltb-false, eqb-true, eqb-false, eq-eqb}
 use Rattle.std.specs.List.Sorted.{IsNonDecreasingBy}
 use Rattle.ftn_base.specs.declared.entity.Sort.{Sort}
@@ -28,12 +28,6 @@ not_same Character e = cc e
 
 sorts_apart : (one other : Sort) → is_other one other ≡ true → one ≢ other
 sorts_apart one other e same = not_same other (subst (λ (s : Sort). is_other s other ≡ true) same e)
-
-some_span : (a b : Span) → Some a ≡ Some b → a ≡ b
-some_span a b e = cc e
-
-some_object : (a b : Object) → Some a ≡ Some b → a ≡ b
-some_object a b e = cc e
 
 -- ---- how far spans reach
 
@@ -111,12 +105,12 @@ module _ (objects : List Object) (class offset group : List ℕ) (spans : List S
   one_at a b j k same lt at_j at_k = sym at_j ∙ by_default ∙ ap (λ (n : ℕ). get_or spans n b) same ∙ at_k
     where
       by_default : get_or spans j a ≡ get_or spans j b
-      by_default = some_span (get_or spans j a) (get_or spans j b) (sym (slice_get-get_or spans j a lt) ∙ slice_get-get_or spans j b lt)
+      by_default = same_Some (get_or spans j a) (get_or spans j b) (sym (slice_get-get_or spans j a lt) ∙ slice_get-get_or spans j b lt)
 
   -- ---- units that meet make a crossing
 
   same_object : (v : ℕ) (span : Span) (is : IsSpanOf objects class offset group v span) (found : Object) → slice_get objects v ≡ Some found → is.object ≡ found
-  same_object v span is found there = some_object is.object found (sym is.there ∙ there)
+  same_object v span is found there = same_Some is.object found (sym is.there ∙ there)
 
   against_from : (v w : ℕ) (a b : Span) (one other : Object) → IsSpanOf objects class offset group v a → IsSpanOf objects class offset group w b → slice_get objects v ≡ Some one → slice_get objects w ≡ Some other
       → one.sort ≢ other.sort → get_or class v 0 ≡ get_or class w 0 → get_or group v 0 ≢ get_or group w 0 → IsAgainst a b.class b.sort b.group

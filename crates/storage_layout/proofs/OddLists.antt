@@ -3,7 +3,7 @@ use Rattle.std.proofs.Common.{zero, suc, ◌≡◌, ℕ, ◌+◌, ◌<◌, ◌�
 use Rattle.std.proofs.lemmas.Int.{ints}
 use Rattle.std.proofs.lemmas.List.{length-append, length-map}
 use Rattle.std.proofs.lemmas.List.Elements.{All-get_or}
-use Rattle.std.proofs.lemmas.Option.{slice_get_within, slice_get-get_or, get_or_from_slice_get}
+use Rattle.std.proofs.lemmas.Option.{slice_get_within, slice_get-get_or, get_or_from_slice_get, same_Some}
 use Rattle.ftn_base.specs.declared.entity.Tie.{Tie}
 use Rattle.ftn_base.specs.Storage.{Link, object, block, tie_links, Leads, IsContradicted}
 use Rattle.ftn_base.specs.declared.storage.Object.{Object}
@@ -72,9 +72,6 @@ module _ (objects : List Object) (blocks : List BlockList) (ties : List Tie) (en
 
 -- ---- members have ties of which the classes tell
 
-some_tie : (a b : Tie) → Some a ≡ Some b → a ≡ b
-some_tie a b e = cc e
-
 module _ (objects : List Object) (block_sizes : List ℕ) (members : List Member) (given : List Tie)
     (class offset size : List ℕ) (found : classes.IsSound (sizes_of objects ++ block_sizes) (tie_links given) class offset size)
     (homes : All (λ (member : Member). IsObjectOf objects member.scope member.object) members)
@@ -114,7 +111,7 @@ module _ (objects : List Object) (block_sizes : List ℕ) (members : List Member
           → (tie.b < length class) × (tie.b < length offset) × (get_or class tie.b 0 < length size) × (get_or offset tie.b 0 ≤ get_or size (get_or class tie.b 0) 0)
       by_member member there =
           let t = tie_at (length (sizes_of objects)) names (sizes_of objects) [] members member_ties are at member there in
-          let one : t.tie ≡ tie = some_tie t.tie tie (sym (in_front member_ties at t.tie t.there) ∙ ap (λ (list : List Tie). slice_get list at) (sym kept_is) ∙ here) in
+          let one : t.tie ≡ tie = same_Some t.tie tie (sym (in_front member_ties at t.tie t.there) ∙ ap (λ (list : List Tie). slice_get list at) (sym kept_is) ∙ here) in
           let b : member.object ≡ tie.b = sym t.is.b ∙ ap (λ (x : Tie). x.b) one in
           by_object tie.b (subst (λ (n : ℕ). n < length (sizes_of objects ++ block_sizes)) b (object_there at member there))
 

@@ -5,7 +5,7 @@ use Rattle.std.specs.Option.{option_map}
 use Rattle.std.proofs.lemmas.Int.{ints}
 use Rattle.std.proofs.lemmas.List.{length-append, length-map, get_or_append_left, get_or_past, append-nil, append_assoc}
 use Rattle.std.proofs.lemmas.List.Elements.{All-contains, All-get_or, Contains-append_left, Contains-append_right, Contains-append_cases}
-use Rattle.std.proofs.lemmas.Option.{slice_get_within, slice_get_past, get_or_from_slice_get}
+use Rattle.std.proofs.lemmas.Option.{slice_get_within, slice_get_past, get_or_from_slice_get, same_Some}
 use Rattle.std.proofs.lemmas.Bool.{ltb-true, ltb-false, eq-eqb}
 use Rattle.ftn_base.specs.declared.entity.Tie.{Tie}
 use Rattle.ftn_base.specs.Storage.{Thing, Link, object, block, tie_link, tie_links, Leads, IsContradicted}
@@ -22,7 +22,7 @@ use Rattle.storage_layout.proofs.Numbers.{zero_by}
 use Rattle.storage_layout.proofs.Potential.{either, cons_cases, cons_more}
 use Rattle.storage_layout.proofs.Carried.{tie_from, tie_there}
 use Rattle.storage_layout.proofs.Start.{filter_first, filter_other, only_block}
-use Rattle.storage_layout.proofs.ScopeLinks.{there_in, link_at, link_there, scope_link, link_placed, some_member}
+use Rattle.storage_layout.proofs.ScopeLinks.{there_in, link_at, link_there, scope_link, link_placed}
 
 -- ---- what is kept of a list
 
@@ -60,7 +60,7 @@ pub tie_at : (count : ℕ) (names sizes : List ℕ) (before members : List Membe
 tie_at count names sizes before [] ties are at member here = absurd (cc here)
 tie_at count names sizes before (first ∷ rest) [] are at member here = absurd are
 tie_at count names sizes before (first ∷ rest) (tie ∷ ties) are zero member here =
-    let one : first ≡ member = some_member first member here in
+    let one : first ≡ member = same_Some first member here in
     record {
       tie = tie;
       there = refl;
@@ -76,12 +76,9 @@ tie_at count names sizes before (first ∷ rest) (tie ∷ ties) are (suc k) memb
 
 -- ---- objects of a scoping unit
 
-some_number : (a b : ℕ) → Some a ≡ Some b → a ≡ b
-some_number a b e = cc e
-
 of_scope_too : (scope : ℕ) (found : Option Object) → option_map (λ (o : Object). o.scope) found ≡ Some scope → is_of scope found ≡ true
 of_scope_too scope None e = absurd (cc e)
-of_scope_too scope (Some o) e = eq-eqb o.scope scope (some_number o.scope scope e)
+of_scope_too scope (Some o) e = eq-eqb o.scope scope (same_Some o.scope scope e)
 
 pub there_too : (objects : List Object) (v scope : ℕ) → IsObjectOf objects scope v → v < length objects
 there_too objects v scope e = by_case (nat_lt v (length objects)) refl
@@ -97,9 +94,6 @@ close start class_end from at units end by away most inner member_inner = omega 
 -- an object that ends where the class of a member does
 closed : (start class_end from at units end : ℕ) (by : ℤ) → pos at ≡ pos from +ℤ by → start + (class_end - from) ≡ end → at + units ≡ class_end → from ≤ class_end → pos start +ℤ by ≡ pos end -ℤ pos units
 closed start class_end from at units end by away end_is far inner = omega (arith, ints, away, end_is, far, inner)
-
-some_tie : (a b : Tie) → Some a ≡ Some b → a ≡ b
-some_tie a b e = cc e
 
 module _ (objects : List Object) (block_sizes : List ℕ) (members : List Member) (given : List Tie)
     (class offset size : List ℕ) (found : classes.IsSound (sizes_of objects ++ block_sizes) (tie_links given) class offset size)
@@ -314,7 +308,7 @@ module _ (objects : List Object) (block_sizes : List ℕ) (members : List Member
         at_member : (k : ℕ) → IsEndOf members kept class offset size number scope k end → (v : ℕ) × Leads own (block number) (object v) (pos end -ℤ pos (get_or (sizes_of objects) v 0))
         at_member k is =
             let t = tie_of k is.member is.there in
-            let one : t.tie ≡ is.tie = some_tie t.tie is.tie (sym (tie_kept k t.tie t.there) ∙ is.tie_there) in
+            let one : t.tie ≡ is.tie = same_Some t.tie is.tie (sym (tie_kept k t.tie t.there) ∙ is.tie_there) in
             let last : last_of class offset size t.tie ≡ start k is.member + (get_or size (get_or class is.member.object 0) 0 - get_or offset is.member.object 0) = last_is k is.member t.tie t.is in
             let end_is : last_of class offset size t.tie ≡ end = ap (last_of class offset size) one ∙ is.last in
             let from = member_inside k is.member is.there in

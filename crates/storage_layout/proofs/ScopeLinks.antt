@@ -1,9 +1,10 @@
 -- The links of one scoping unit's lists: those of the members there, with the starts that they have among all members.
-use Rattle.std.proofs.Common.{zero, suc, ◌≡◌, ℕ, List, [], ◌∷◌, ◌++◌, Bool, true, false, None, Some, Contains, map, filter, sum, nat_eq, take, get_or, slice_get, refl, sym, ◌∙◌, subst, ap, arith}
+use Rattle.std.proofs.Common.{zero, suc, ◌≡◌, ℕ, List, [], ◌∷◌, ◌++◌, Bool, true, false, Some, Contains, map, filter, sum, nat_eq, take, get_or, slice_get, refl, sym, ◌∙◌, subst, ap, arith}
 use Rattle.std.proofs.lemmas.Bool.Decides.{nat_tests}
 use Rattle.std.proofs.lemmas.List.{append-nil, append_assoc}
 use Rattle.std.proofs.lemmas.List.Elements.{filter-append}
 use Rattle.std.proofs.lemmas.Bool.{eqb-true, eq-eqb}
+use Rattle.std.proofs.lemmas.Option.{same_Some, none-some}
 use Rattle.ftn_base.specs.Storage.{Link, member_link}
 use Rattle.ftn_base.specs.declared.storage.Member.{Member}
 use Rattle.ftn_base.specs.StorageMembers.{is_in, units_in, start_after, links_after}
@@ -35,12 +36,6 @@ without_member : (scope : ℕ) (before after : List Member) (member : Member) �
 without_member scope before after member same e =
     same ∙ sym (append-nil (there_in scope before)) ∙ ap (λ (ms : List Member). there_in scope before ++ ms) (sym (filter_other (of_scope scope) member [] e)) ∙ sym (filter-append (of_scope scope) before (member ∷ []))
 
-pub some_member : (a b : Member) → Some a ≡ Some b → a ≡ b
-some_member a b e = cc e
-
-no_member : (member : Member) → None ≡ Some member → ⊥
-no_member member e = cc e
-
 -- the link of a member, which begins after those before it
 abbrev pub link_at : List ℕ → List Member → List Member → ℕ → Member → Link
 link_at sizes before members at member = member_link member.block member.object (start_after sizes (before ++ take at members) member)
@@ -50,9 +45,9 @@ onward before rest first k = append_assoc before (first ∷ []) (take k rest)
 
 -- the link of each member is there
 pub link_there : (sizes : List ℕ) (before members : List Member) (at : ℕ) (member : Member) → slice_get members at ≡ Some member → Contains (links_after sizes before members) (link_at sizes before members at member)
-link_there sizes before [] at member here = absurd (no_member member here)
+link_there sizes before [] at member here = absurd (none-some member here)
 link_there sizes before (first ∷ rest) zero member here =
-    let one : first ≡ member = some_member first member here in
+    let one : first ≡ member = same_Some first member here in
     (zero, (omega arith), ap (λ (m : Member). member_link m.block m.object (start_after sizes before m)) one ∙ ap (λ (ms : List Member). member_link member.block member.object (start_after sizes ms member)) (sym (append-nil before)))
 link_there sizes before (first ∷ rest) (suc k) member here =
     subst (λ (ms : List Member). Contains (links_after sizes before (first ∷ rest)) (member_link member.block member.object (start_after sizes ms member))) (onward before rest first k)
@@ -62,9 +57,9 @@ link_there sizes before (first ∷ rest) (suc k) member here =
 -- the link of each member of the scoping unit is one of its links
 pub scope_link : (sizes : List ℕ) (scope : ℕ) (before after members : List Member) → after ≡ there_in scope before → (at : ℕ) (member : Member) → slice_get members at ≡ Some member → member.scope ≡ scope
     → Contains (links_after sizes after (there_in scope members)) (link_at sizes before members at member)
-scope_link sizes scope before after [] same at member here e = absurd (no_member member here)
+scope_link sizes scope before after [] same at member here e = absurd (none-some member here)
 scope_link sizes scope before after (first ∷ rest) same zero member here e =
-    let one : first ≡ member = some_member first member here in
+    let one : first ≡ member = same_Some first member here in
     let kept : there_in scope (first ∷ rest) ≡ first ∷ there_in scope rest = filter_first (of_scope scope) first rest (eq-eqb first.scope scope (ap (λ (m : Member). m.scope) one ∙ e)) in
     subst (λ (ms : List Member). Contains (links_after sizes after ms) (link_at sizes before (first ∷ rest) zero member)) (sym kept) (
       zero,

@@ -2,7 +2,7 @@
 
 use crate::dir_list::path_of;
 use crate::failure::{Failure, Step};
-use ftn_base::FileName;
+use ftn_base::{FileName, MOST_FILE_NAME_BYTES};
 use std::alloc::{AllocError, Global};
 use std::fs::{File, OpenFile, OpenOptions, Permissions};
 use std::io::{Error, ErrorKind, Write};
@@ -12,9 +12,6 @@ use std::{fs, io};
 
 /// What takes the place of a name that would be too long with what is added to it.
 const SHORT_NAME: &str = "ftn_tool";
-
-/// How many bytes a name has at the most.
-const MOST_NAME_BYTES: usize = 255;
 
 /// How many names are tried for the new text.
 const TRIES: u32 = 100;
@@ -92,7 +89,7 @@ fn new_file<R: Files>(
     options.write(true).create_new(true).mode(mode_of(old));
     for number in 0..TRIES {
         let mut beside = beside_name(alloc, path, number)?;
-        if beside.len() > MOST_NAME_BYTES {
+        if beside.len() > MOST_FILE_NAME_BYTES {
             beside = beside_name(alloc, SHORT_NAME, number)?;
         }
         match options.open(rt, beside.as_str()) {

@@ -1,4 +1,8 @@
 //! The outside: stores of files, sources of bytes and sinks for them, in memory and of the system.
+//!
+//! The traits say what each call changes of what a device tells, and when its counts rise; `MemStore`, `MemSource` and `MemSink` fail at
+//! listed calls and at no others. To be trusted are all of its specs: `Told`, `Counts`, `Memory` and `Failures`. The devices of the
+//! system (`DirStore`, `StdSource`, `StdSink`) tell no content: that a rename on a real folder is whole isn't proved.
 #![tactic(auto)]
 
 mod dir_list;

@@ -1,14 +1,11 @@
 //! `token_count`: the tokens, statements and lines of a Fortran text on standard input, or the first rule that it breaks.
-//! It is there to measure the scanner.
+//! It is there to measure the scanner. It promises nothing beyond what `free_scan::scan` does.
 #![tactic(auto)]
 
 use free_scan::{ScanFault, scan};
-use ftn_base::{Edition, FaultKind, NoMemory, Steps};
+use ftn_base::{Edition, FaultKind, MOST_FILE_BYTES, NoMemory, Steps};
 use std::io::Read;
 use std::process::ExitCode;
-
-/// How many bytes a text may have.
-const MOST: usize = 4_194_304;
 
 /// What came of a text.
 enum Answer {
@@ -25,7 +22,7 @@ fn count(rt: &HostRuntime) -> Answer {
     if rt.reader().read_to_end(&mut text).is_err() {
         return Answer::NoInput;
     }
-    if text.len() > MOST {
+    if text.len() > MOST_FILE_BYTES as usize {
         return Answer::TooLong;
     }
     let mut steps = Steps::new(());

@@ -1,7 +1,11 @@
-//! `tree_text`: the tokens, statements and program units of a Fortran text on standard input, or its first fault.
+//! `tree_text`: the tokens, statements and program units of a Fortran text on standard input, its names with what is said of them, its
+//! expressions with what their places want, or its first fault.
+//!
+//! What it shows is what the readers of `free_scan` and `unit_parse` gave; that it is printed rightly is shown by rows and not proved.
 #![tactic(auto)]
 
 ghost use Rattle.std.specs.Prelude.{◌<◌, ◌≤◌, ◌^◌, length};
+ghost use Rattle.ftn_base.specs.Limits.{most_file_bytes};
 
 mod actions;
 mod data;
@@ -9,11 +13,13 @@ mod declarations;
 mod expressions;
 mod headings;
 mod line;
+mod said;
 mod statements;
 mod tokens;
 mod units;
 
 use crate::line::{join, put, put_place};
+use crate::said::{put_expressions, put_mentions};
 use crate::statements::put_statements;
 use crate::tokens::put_tokens;
 use crate::units::put_units;
@@ -33,7 +39,26 @@ enum Shown {
     Tokens,
     Statements,
     Units,
+    Names,
+    Expressions,
     Both,
+}
+
+/// What this word asks for.
+fn shown_by(word: &[u8]) -> Option<Shown> {
+    if word == b"tokens".as_slice() {
+        Some(Shown::Tokens)
+    } else if word == b"statements".as_slice() {
+        Some(Shown::Statements)
+    } else if word == b"units".as_slice() {
+        Some(Shown::Units)
+    } else if word == b"names".as_slice() {
+        Some(Shown::Names)
+    } else if word == b"expressions".as_slice() {
+        Some(Shown::Expressions)
+    } else {
+        None
+    }
 }
 
 /// The one word that says what is shown; without a word it is statements and units. Nothing where the words are others.
@@ -42,12 +67,7 @@ fn asked(rt: &HostRuntime) -> Option<Shown> {
     let shown = match rt.arg(1, &mut buffer) {
         Err(FillError::NotPresent) => return Some(Shown::Both),
         Err(FillError::TooLong) => return None,
-        Ok(count) => match &buffer[..count] {
-            b"tokens" => Shown::Tokens,
-            b"statements" => Shown::Statements,
-            b"units" => Shown::Units,
-            _ => return None,
-        },
+        Ok(count) => shown_by(&buffer[..count])?,
     };
     match rt.arg(2, &mut buffer) {
         Err(FillError::NotPresent) => Some(shown),
@@ -62,8 +82,8 @@ fn put_fault(
     text: &[u8],
     kind: FaultKind,
     at: u32,
-) -> Result<(), NoMemory>
-    requires { length text.now ≤ 4194304 }
+) -> Result<Status, NoMemory>
+    requires { length text.now ≤ most_file_bytes }
 {
     join(out, b"fault")?;
     put(out, kind.name().as_bytes())?;
@@ -72,7 +92,27 @@ fn put_fault(
         out,
         line_and_column(text, (at as usize).min(text.len())),
     )?;
-    join(out, b"\n")
+    join(out, b"\n")?;
+    Ok(Status::BadProject)
+}
+
+fn put_shown(
+    alloc: Global,
+    out: &mut Vec<u8>,
+    tree: &FileTree,
+    shown: Shown,
+) -> Result<(), NoMemory> {
+    let (tokens, statements) = (&tree.tokens, tree.statements.as_slice());
+    match shown {
+        Shown::Names => put_mentions(alloc, out, tokens, statements),
+        Shown::Expressions => put_expressions(alloc, out, tokens, statements),
+        Shown::Units => put_units(alloc, out, tree, tree.units.as_slice(), 0),
+        Shown::Tokens | Shown::Statements => put_statements(alloc, out, tokens, statements),
+        Shown::Both => {
+            put_statements(alloc, out, tokens, statements)?;
+            put_units(alloc, out, tree, tree.units.as_slice(), 0)
+        }
+    }
 }
 
 fn put_tree(
@@ -80,14 +120,9 @@ fn put_tree(
     out: &mut Vec<u8>,
     tree: &FileTree,
     shown: Shown,
-) -> Result<(), NoMemory> {
-    if !matches!(shown, Shown::Units) {
-        put_statements(alloc, out, &tree.tokens, tree.statements.as_slice())?;
-    }
-    if !matches!(shown, Shown::Statements) {
-        put_units(alloc, out, tree, tree.units.as_slice(), 0)?;
-    }
-    Ok(())
+) -> Result<Status, NoMemory> {
+    put_shown(alloc, out, tree, shown)?;
+    Ok(Status::Done)
 }
 
 /// Adds the tree that these tokens have, or the line of their first fault.
@@ -98,19 +133,30 @@ fn put_parsed(
     tokens: Tokens,
     shown: Shown,
 ) -> Result<Status, NoMemory>
-    requires short { length text.now ≤ 4194304 }
+    requires short { length text.now ≤ most_file_bytes }
     requires few { length tokens.statements < 2 ^ 32 }
 {
     match parse(alloc, tokens) {
-        Ok(tree) => {
-            put_tree(alloc, out, &tree, shown)?;
-            Ok(Status::Done)
-        }
-        Err(ParseFault::At { kind, range }) => {
-            put_fault(alloc, out, text, kind, range.start)?;
-            Ok(Status::BadProject)
-        }
+        Ok(tree) => put_tree(alloc, out, &tree, shown),
+        Err(ParseFault::At { kind, range }) => put_fault(alloc, out, text, kind, range.start),
         Err(ParseFault::NoMemory) => Err(NoMemory),
+    }
+}
+
+/// Adds the tokens, or what is shown of their tree.
+fn put_scanned(
+    alloc: Global,
+    out: &mut Vec<u8>,
+    text: &[u8],
+    tokens: Tokens,
+    shown: Shown,
+) -> Result<Status, NoMemory>
+    requires short { length text.now ≤ most_file_bytes }
+    requires few { length tokens.statements < 2 ^ 32 }
+{
+    match shown {
+        Shown::Tokens => put_tokens(alloc, out, &tokens),
+        _ => put_parsed(alloc, out, text, tokens, shown),
     }
 }
 
@@ -126,19 +172,11 @@ fn put_text(
         return Ok(Status::Limit);
     }
     let mut steps = Steps::new(());
-    let tokens = match scan(alloc, text, Edition::F90, &mut steps) {
-        Ok(tokens) => tokens,
-        Err(ScanFault::At { kind, at }) => {
-            put_fault(alloc, out, text, kind, at)?;
-            return Ok(Status::BadProject);
-        }
-        Err(ScanFault::NoMemory) => return Err(NoMemory),
-    };
-    if matches!(shown, Shown::Tokens) {
-        put_tokens(alloc, out, &tokens)?;
-        return Ok(Status::Done);
+    match scan(alloc, text, Edition::F90, &mut steps) {
+        Ok(tokens) => put_scanned(alloc, out, text, tokens, shown),
+        Err(ScanFault::At { kind, at }) => put_fault(alloc, out, text, kind, at),
+        Err(ScanFault::NoMemory) => Err(NoMemory),
     }
-    put_parsed(alloc, out, text, tokens, shown)
 }
 
 /// Reads the text and writes what is shown of it.
@@ -153,7 +191,10 @@ fn answer(rt: &HostRuntime) -> Result<Status, NoMemory> {
             put_text(rt.alloc(), &mut out, &text, shown)?
         }
         None => {
-            join(&mut out, b"one word at most: tokens, statements or units\n")?;
+            join(
+                &mut out,
+                b"one word at most: tokens, statements, units, names or expressions\n",
+            )?;
             Status::BadWords
         }
     };

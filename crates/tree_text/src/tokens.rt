@@ -1,7 +1,7 @@
 //! Tokens, and where lines begin.
 
 use crate::line::{join, place_of, put, put_number, put_place, put_quoted};
-use ftn_base::{NoMemory, Range};
+use ftn_base::{NoMemory, Range, Status};
 use ftn_tree::{Token, TokenKind, Tokens};
 use std::alloc::Global;
 
@@ -55,8 +55,8 @@ fn put_token_line(
     join(out, b"\n")
 }
 
-/// Adds the tokens of each statement, and then the offset at which each line begins.
-pub fn put_tokens(alloc: Global, out: &mut Vec<u8>, tokens: &Tokens) -> Result<(), NoMemory> {
+/// Adds the tokens of each statement, and then the offset at which each line begins. Then all is done.
+pub fn put_tokens(alloc: Global, out: &mut Vec<u8>, tokens: &Tokens) -> Result<Status, NoMemory> {
     for statement in tokens.statements.as_slice() {
         join(out, b"statement\n")?;
         for number in statement.start..statement.end {
@@ -67,5 +67,6 @@ pub fn put_tokens(alloc: Global, out: &mut Vec<u8>, tokens: &Tokens) -> Result<(
     for start in tokens.line_starts.as_slice() {
         put_number(alloc, out, *start)?;
     }
-    join(out, b"\n")
+    join(out, b"\n")?;
+    Ok(Status::Done)
 }

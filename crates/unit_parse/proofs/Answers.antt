@@ -1,5 +1,5 @@
 -- The stack's answer is the units that are nested, or the first fault in nesting.
-use Rattle.std.proofs.Common.{◌≡◌, ℕ, ◌+◌, Bool, true, false, not, ◌&&◌, ◌||◌, if◌then◌else◌, List, [], ◌∷◌, ◌++◌, length, map, Option, Some, None, Result, Ok, Err, inl, inr, refl, sym, ◌∙◌, ap, subst, append_assoc, append-nil, arith, suc}
+use Rattle.std.proofs.Common.{◌≡◌, ℕ, ◌+◌, Bool, true, false, not, ◌&&◌, ◌||◌, if◌then◌else◌, List, [], ◌∷◌, ◌++◌, length, Option, Some, None, Result, Ok, Err, inl, inr, refl, sym, ◌∙◌, ap, subst, append_assoc, append-nil, arith, suc}
 use Rattle.ftn_base.specs.declared.fault.FaultKind.{FaultKind}
 use Rattle.ftn_base.specs.declared.fault.FaultKind.TheVariants.{Misplaced, OutOfProfile, TooDeep}
 use Rattle.ftn_tree.specs.declared.mark.Mark.{Mark}
@@ -9,11 +9,11 @@ use Rattle.ftn_tree.specs.declared.mark.Title.{Title}
 use Rattle.ftn_tree.specs.declared.unit.Unit.{Unit as UnitTree}
 use Rattle.ftn_tree.specs.Marks.{is_implicit, is_characteristic}
 use Rattle.ftn_tree.specs.Nesting.{Row, spelled, held, IsFile, Nested, Begins}
-use Rattle.ftn_tree.specs.NestFaults.{is_body, path_after, innermost, kind_in, IsUnfinished, IsNestFault}
+use Rattle.ftn_tree.specs.NestFaults.{is_body, titles, kind_in, IsUnfinished, IsNestFault}
 use Rattle.unit_parse.specs.declared.level.Level.{Level}
 use Rattle.unit_parse.specs.declared.frames.Frame.{Frame}
-use Rattle.unit_parse.specs.Following.{follow}
-use Rattle.unit_parse.specs.Taking.{State, Outcome, Answer, start, path_of, allows, add, at_stage, placed, place, refused_kind, shut, ends_first, take, go_on, take_all, finished, finish_all, nest, is_too_deep, Finishes}
+use Rattle.unit_parse.specs.steps.Following.{follow}
+use Rattle.unit_parse.specs.Taking.{State, Outcome, Answer, start, allows, add, at_stage, placed, place, refused_kind, shut, ends_first, take, go_on, take_all, finished, finish_all, nest, is_too_deep, Finishes}
 use Rattle.unit_parse.specs.Answers.{Gives}
 use Rattle.unit_parse.specs.declared.fault.NestFault.{NestFault}
 use Rattle.unit_parse.specs.declared.fault.NestFault.TheVariants as fault
@@ -23,7 +23,8 @@ use Rattle.unit_parse.proofs.Complete.{complete}
 use Rattle.unit_parse.proofs.Built.{built}
 use Rattle.unit_parse.proofs.Reached.{Reached, reached, reached_none, whole_order}
 use Rattle.unit_parse.proofs.Closed.{begins}
-use Rattle.unit_parse.proofs.Unended.{path_openings, unended}
+use Rattle.unit_parse.proofs.Unended.{openings, path_openings}
+use Rattle.unit_parse.proofs.LeftOpen.{leaves_open}
 
 abbrev pub Units : Type 0
 Units = Result (List UnitTree) (FaultKind × ℕ)
@@ -164,15 +165,12 @@ module _ (same : ℕ → ℕ → Bool) where
   refused_as s n (mark.End by) kind e = chosen (ends_first same s.here.region s.frames (mark.End by)) (shut s n) (refused_kind s (mark.End by)) kind e
   refused_as s n m kind e = placed_err s n m (follow (left s.here) s.here.stage m) kind e
 
-  path_is : (marks : List Mark) (s : State) → take_all same start 0 marks ≡ Ok s → path_after marks ≡ path_of s.frames
-  path_is marks s e = ap (λ (l : List (ℕ × Title)). map (λ one. one.1) l) (unended same marks start s 0 e) ∙ path_openings s.frames
-
-  pub kind_is : (front : List Mark) (last : State) (n : ℕ) (m : Mark) (kind : FaultKind) → take_all same start 0 front ≡ Ok last → take same last n m ≡ Err kind → kind ≡ kind_in (path_after front) m
+  pub kind_is : (front : List Mark) (last : State) (n : ℕ) (m : Mark) (kind : FaultKind) → take_all same start 0 front ≡ Ok last → take same last n m ≡ Err kind → kind ≡ kind_in (titles (openings last.frames)) m
   kind_is front last n m kind before stops =
       let was = reached same front [] start last 0 (reached_none same) before in
       sym (refused_as last n m kind stops)
       ∙ ap (λ (r : Region). if is_body r && not (is_implicit m || is_characteristic m) then OutOfProfile else (if is_too_deep last m then TooDeep else Misplaced)) was.level.region
-      ∙ ap (λ (path : List Title). kind_in path m) (sym (path_is front last before))
+      ∙ ap (λ (path : List Title). kind_in path m) (sym (path_openings last.frames))
 
   -- ---- the fault
 
@@ -182,7 +180,9 @@ module _ (same : ℕ → ℕ → Bool) where
   unfinished_at marks kind at here (frame ∷ frames) fails is e = record {
     begins = begins same marks (state here (frame ∷ frames)) (reached same marks [] start (state here (frame ∷ frames)) 0 (reached_none same) is);
     unfinished = λ units nested. units_no_err units (kind, at) (sym (nested_only marks units nested) ∙ fails);
-    place = ap (λ (l : List (ℕ × Title)). innermost l) (unended same marks start (state here (frame ∷ frames)) 0 is) ∙ ap (λ (p : FaultKind × ℕ). Some p.1) (units_err (Misplaced, frame.opening) (kind, at) e);
+    path = openings (frame ∷ frames);
+    leaves = leaves_open same marks (state here (frame ∷ frames)) is;
+    place = ap (λ (p : FaultKind × ℕ). Some p.1) (units_err (Misplaced, frame.opening) (kind, at) e);
     kind_is = ap (λ (p : FaultKind × ℕ). p.0) (sym (units_err (Misplaced, frame.opening) (kind, at) e));
   }
 
@@ -198,6 +198,8 @@ module _ (same : ℕ → ℕ → Bool) where
         place = one.place ∙ omega arith;
         before = begins same one.front one.last (reached same one.front [] start one.last 0 (reached_none same) one.before);
         after = takes_none one.front one.refused one.last at kind one.place one.before one.stops;
+        path = openings one.last.frames;
+        leaves = leaves_open same one.front one.last one.before;
         kind_is = kind_is one.front one.last at one.refused kind one.before one.stops;
       })
 

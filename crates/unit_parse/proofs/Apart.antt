@@ -2,6 +2,7 @@
 use Rattle.std.proofs.Common.{◌≡◌, refl, sym, ◌∙◌, ap, subst, ℕ, ◌+◌, Bool, true, false, not, ◌||◌, List, [], ◌∷◌, ◌++◌, length, Option, Some, None, codes, true≢false}
 use Rattle.std.specs.List.{list_any}
 use Rattle.std.proofs.lemmas.Slice.Eq.{bytes_eq-Decides}
+use Rattle.std.proofs.lemmas.Bool.{or_from, or_left, or_right}
 use Rattle.ftn_tree.specs.declared.token.Token.{Token}
 use Rattle.ftn_tree.specs.declared.token.TokenKind.{TokenKind}
 use Rattle.ftn_tree.specs.declared.token.TokenKind.TheVariants as kinds
@@ -31,9 +32,7 @@ use Rattle.ftn_tree.specs.declared.parts.BlockName.TheVariants.{Unwritten, Blank
 use Rattle.ftn_tree.specs.declared.parts.CommonGroup.{CommonGroup}
 use Rattle.ftn_tree.specs.declared.parts.DataGroup.{DataGroup}
 use Rattle.ftn_tree.specs.declared.parts.Designator.{Designator}
-use Rattle.ftn_tree.specs.declared.parts.LeaveWord.{LeaveWord}
 use Rattle.ftn_tree.specs.declared.parts.LeaveWord.TheVariants as leave
-use Rattle.ftn_tree.specs.declared.parts.IoStyle.{IoStyle}
 use Rattle.ftn_tree.specs.declared.parts.IoStyle.TheVariants as style
 use Rattle.ftn_tree.specs.Layers.{FormLayer}
 use Rattle.ftn_tree.specs.Lexemes.{lexeme_of, lexeme_by, is_word, is_word_at, is_text}
@@ -45,28 +44,12 @@ use Rattle.ftn_tree.specs.UnitForms as units
 use Rattle.ftn_tree.specs.Assignments.{IsAssignment}
 use Rattle.ftn_tree.specs.Specifications.{is_specification}
 use Rattle.ftn_tree.specs.ExecutableForms as exec
+use Rattle.unit_parse.specs.steps.Openings.{first_words, begins_with, first_colon, starts}
 
 -- ---- how tokens begin
 
-first_words : List (List ℕ)
-first_words =
-    codes "call" ∷ codes "exit" ∷ codes "cycle" ∷ codes "stop" ∷ codes "return" ∷ codes "continue" ∷ codes "print" ∷ codes "write" ∷ codes "read"
-    ∷ codes "if" ∷ codes "else" ∷ codes "elseif" ∷ codes "do" ∷ codes "select" ∷ codes "selectcase" ∷ codes "case" ∷ []
-
-abbrev begins_with : Token → List (List ℕ) → Bool
-begins_with here words = list_any (λ text. is_word text here) words
-
 abbrev is_one_of : List ℕ → List (List ℕ) → Bool
 is_one_of text words = list_any (λ other. is_text text other) words
-
-abbrev first_colon : List Token → Bool
-first_colon [] = false
-first_colon (here ∷ rest) = is_colon_at (lexeme_of here)
-
--- the first word of an executable statement, or a name before a colon
-abbrev starts : List Token → Bool
-starts [] = false
-starts (here ∷ rest) = begins_with here first_words || first_colon rest
 
 value_is : (kind : TokenKind) (value text other : List ℕ) → is_word_at kind value text ≡ true → is_word_at kind value other ≡ is_text text other
 value_is kinds.Word value text other e = ap (λ (v : List ℕ). is_text v other) ((bytes_eq-Decides value text).0 e)
@@ -218,9 +201,6 @@ opens_none text other opening at tokens says =
       free = opens.free;
     }
 
-or_false : (one other : Bool) → one ≡ false → other ≡ false → (one || other) ≡ false
-or_false one other a b = ap (λ (x : Bool). x || other) a ∙ b
-
 abbrev NoStart : Phrase → Type 0
 NoStart phrase = (at : ℕ) (tokens : List Token) → phrase at tokens → starts tokens ≡ false
 
@@ -228,7 +208,7 @@ no_start : (text : List ℕ) (phrase : Phrase) → is_one_of text first_words �
 no_start text phrase other opening at tokens says =
     let opens = opening at tokens says in
     ap (λ (l : List Token). starts l) opens.tokens_are
-    ∙ or_false (begins_with opens.first first_words) (first_colon opens.rest) (word_is first_words opens.first text opens.is ∙ other) opens.free
+    ∙ or_from (begins_with opens.first first_words) (first_colon opens.rest) (word_is first_words opens.first text opens.is ∙ other) opens.free
 
 -- ---- the rows of specification statements
 
@@ -362,7 +342,7 @@ unfolding first_words
 procedure_other procedures.External = refl
 procedure_other procedures.Intrinsic = refl
 
-specification_row : (form : FormLayer) → NoStart (units.unit_form_at form)
+pub specification_row : (form : FormLayer) → NoStart (units.unit_form_at form)
 unfolding first_words
 specification_row (Form-F.BlockData true n) =
     no_start (codes "blockdata") (word (codes "blockdata") · maybe name n) refl (row_of (codes "blockdata") (maybe name n) (free_maybe name lead_name n))
@@ -439,21 +419,18 @@ specification_row _ = λ at tokens says. absurd says
 abbrev Start : Phrase → Type 0
 Start phrase = (at : ℕ) (tokens : List Token) → phrase at tokens → starts tokens ≡ true
 
-or_true : (one other : Bool) → one ≡ true → (one || other) ≡ true
-or_true one other a = ap (λ (x : Bool). x || other) a
-
 or_no : (one : Bool) → (one || false) ≡ true → one ≡ true
 or_no true e = refl
 or_no false e = e
 
 starts_more : (before after : List Token) → starts before ≡ true → starts (before ++ after) ≡ true
 starts_more [] after e = absurd (cc e)
-starts_more (here ∷ []) after e = or_true (begins_with here first_words) (first_colon after) (or_no (begins_with here first_words) e)
+starts_more (here ∷ []) after e = or_left (begins_with here first_words) (first_colon after) (or_no (begins_with here first_words) e)
 starts_more (here ∷ next ∷ rest) after e = e
 
 start_word : (text : List ℕ) → is_one_of text first_words ≡ true → Start (word text)
 start_word text is at tokens says =
-    ap (λ (l : List Token). starts l) says.1 ∙ or_true (begins_with says.0 first_words) false (word_is first_words says.0 text says.2 ∙ is)
+    ap (λ (l : List Token). starts l) says.1 ∙ or_left (begins_with says.0 first_words) false (word_is first_words says.0 text says.2 ∙ is)
 
 start_seq : (one other : Phrase) → Start one → Start (one · other)
 start_seq one other start at tokens says = ap (λ (l : List Token). starts l) says.2 ∙ starts_more says.0 says.1 (start at says.0 says.3)
@@ -462,14 +439,10 @@ start_none : (other : Phrase) → Start other → Start (nothing · other)
 start_none other start at tokens says =
     ap (λ (l : List Token). starts l) (says.2 ∙ ap (λ (l : List Token). l ++ says.1) says.3) ∙ start (at + length says.0) says.1 says.4
 
-or_second : (one other : Bool) → other ≡ true → (one || other) ≡ true
-or_second true other e = refl
-or_second false other e = e
-
 start_label : (n : ℕ) → Start (exec.label n)
 start_label n at tokens says =
     ap (λ (l : List Token). starts l) (says.2 ∙ ap (λ (l : List Token). l ++ says.1) says.3.1 ∙ ap (λ (l : List Token). says.3.0 ∷ l) says.4.1)
-    ∙ or_second (begins_with says.3.0 first_words) (is_colon_at (lexeme_of says.4.0)) (ap (λ (k : Lexeme). is_colon_at k) says.4.2)
+    ∙ or_right (begins_with says.3.0 first_words) (is_colon_at (lexeme_of says.4.0)) (ap (λ (k : Lexeme). is_colon_at k) says.4.2)
 
 start_joined : (whole one other : List ℕ) (joined : Bool) → is_one_of whole first_words ≡ true → is_one_of one first_words ≡ true → Start (exec.joined_words whole one other joined)
 start_joined whole one other true is two = start_word whole is
@@ -494,7 +467,7 @@ action_row (Form-F.Read style.Star items) = start_seq (word (codes "read")) (mar
 action_row (Form-F.Read style.Paren items) = start_seq (word (codes "read")) (exec.after_stars (commas_or_none reference items)) (start_word (codes "read") refl)
 action_row _ = λ at tokens says. absurd says
 
-statement_row : (form : FormLayer) → Start (exec.statement_at form)
+pub statement_row : (form : FormLayer) → Start (exec.statement_at form)
 unfolding first_words
 statement_row (Form-F.IfThen e) = start_seq (word (codes "if")) (exec.condition e · word (codes "then")) (start_word (codes "if") refl)
 statement_row (Form-F.ElseIf joined e) = start_seq (exec.else_if joined) (exec.condition e · word (codes "then")) (start_joined (codes "elseif") (codes "else") (codes "if") joined refl refl)

@@ -27,7 +27,7 @@ module _ (same : ℕ → ℕ → Bool) where
   ends_itself : (within : Region) (what : Title) → ends same within what (end_of what) ≡ true
   ends_itself within what = rw (same_itself what.word) refl
 
-  begins_less : (front more : List Mark) → Begins same (front ++ more) → Begins same front
+  pub begins_less : (front more : List Mark) → Begins same (front ++ more) → Begins same front
   begins_less front more is = (is.0, more ++ is.1, is.2, is.3 ∙ append_assoc front more is.1)
 
   closed : (frames : List Frame) (front : List Mark) (row : Row) (level : Level) → IsLevel same (path_of frames) row [] level → Below same front frames → Begins same (front ++ spelled row)

@@ -24,7 +24,7 @@ region_after (nest what inside end rest) level at =
 pub left_same : (one other : Level) → one.region ≡ other.region → one.stage ≡ other.stage → left one ≡ left other
 left_same one other r s = ap (λ (k : ℕ). drop k (sections_in one.region)) s ∙ ap (λ (r : Region). drop other.stage (sections_in r)) r
 
-numbers : (inside : List Mark) (end : Mark) (rest : List Mark) (at : ℕ) → at + 1 + length inside + 1 + length rest ≡ at + suc (length (inside ++ end ∷ rest))
+pub numbers : (inside : List Mark) (end : Mark) (rest : List Mark) (at : ℕ) → at + 1 + length inside + 1 + length rest ≡ at + suc (length (inside ++ end ∷ rest))
 numbers inside end rest at = let e : length (inside ++ end ∷ rest) ≡ length inside + suc (length rest) = length-append inside (end ∷ rest) in omega arith
 
 module _ (same : ℕ → ℕ → Bool) where

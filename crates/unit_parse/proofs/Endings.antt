@@ -6,38 +6,39 @@ use Rattle.ftn_base.specs.declared.fault.FaultKind.{FaultKind}
 use Rattle.ftn_base.specs.declared.place.Range.{Range}
 use Rattle.ftn_tree.specs.declared.mark.Mark.{Mark}
 use Rattle.ftn_tree.specs.declared.mark.Mark.TheVariants as mark
-use Rattle.ftn_tree.specs.declared.mark.Title.{Title}
 use Rattle.ftn_tree.specs.declared.token.Tokens.{Tokens}
 use Rattle.ftn_tree.specs.declared.unit.FileTree.{FileTree}
 use Rattle.ftn_tree.specs.declared.unit.Statement.{Statement}
 use Rattle.ftn_tree.specs.declared.unit.Unit.{Unit as UnitTree}
 use Rattle.ftn_tree.specs.Nesting.{Nested}
-use Rattle.ftn_tree.specs.NestFaults.{marks_of, same_name, unclosed_from, unclosed, innermost, IsUnfinished}
+use Rattle.ftn_tree.specs.NestFaults.{Path, marks_of, same_name, innermost, IsUnfinished}
 use Rattle.ftn_tree.specs.FileFaults.{IsFileTree, IsEndFault, AreRead, first_bytes, no_bytes}
 use Rattle.unit_parse.specs.declared.fault.NestFault.{NestFault}
 use Rattle.unit_parse.specs.declared.fault.NestFault.TheVariants as nest
 use Rattle.unit_parse.specs.declared.statements.Reading.{Reading}
 use Rattle.unit_parse.specs.Parsing.{HasNoTree, IsParseFault}
+use Rattle.unit_parse.specs.steps.Unclosed.{unclosed_from}
 use Rattle.unit_parse.specs.steps.Progress.{Holds, bytes_of, unfinished}
 use Rattle.unit_parse.specs.Taking.{State, Answer, start, take_all, finish, finish_all, Finishes}
 use Rattle.unit_parse.proofs.NextStatement.{marks_length}
+use Rattle.unit_parse.proofs.LeftOpen.{path_found}
 use Rattle.unit_parse.proofs.Answers.{nested_ok, unfinished_at}
 
 -- ---- an opening without an ending is one of the statements
 
-abbrev AreBelow : ℕ → List (ℕ × Title) → Type 0
+abbrev AreBelow : ℕ → Path → Type 0
 AreBelow n [] = Unit {0}
 AreBelow n (one ∷ around) = (one.0 < n) × AreBelow n around
 
-below_more : (around : List (ℕ × Title)) (n : ℕ) → AreBelow n around → AreBelow (n + 1) around
+below_more : (around : Path) (n : ℕ) → AreBelow n around → AreBelow (n + 1) around
 below_more [] n are = tt
 below_more (one ∷ around) n are = (omega (arith, are.0), below_more around n are.1)
 
-below_less : (around : List (ℕ × Title)) (n : ℕ) → AreBelow n around → AreBelow n (drop 1 around)
+below_less : (around : Path) (n : ℕ) → AreBelow n around → AreBelow n (drop 1 around)
 below_less [] n are = tt
 below_less (one ∷ around) n are = are.1
 
-within : (marks : List Mark) (around : List (ℕ × Title)) (n at : ℕ) → AreBelow n around → innermost (unclosed_from around n marks) ≡ Some at → at < n + length marks
+within : (marks : List Mark) (around : Path) (n at : ℕ) → AreBelow n around → innermost (unclosed_from around n marks) ≡ Some at → at < n + length marks
 within [] [] n at are e = absurd (cc e)
 within [] (one ∷ around) n at are e = let is : one.0 ≡ at = cc e in let low = are.0 in omega arith
 within (mark.Open what ∷ marks) around n at are e =
@@ -76,7 +77,8 @@ module _ (tokens : Tokens) (reading : Reading) (holds : Holds tokens tokens.stat
       → (statement : Statement) × (slice_get reading.statements number ≡ Some statement)
   opening_of kind number is =
       there reading.statements number
-      (let low = within (marks_of reading.statements) [] 0 number tt is.place in
+      (let low = within (marks_of reading.statements) [] 0 number tt
+      (ap (λ (path : Path). innermost path) (sym (path_found (same_name tokens) is.path (marks_of reading.statements) is.leaves)) ∙ is.place) in
       let many = marks_length reading.statements in
       omega arith)
 

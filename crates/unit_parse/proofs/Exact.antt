@@ -1,12 +1,11 @@
 -- There is one answer: statements nest as one list of units, or have one fault.
-use Rattle.std.proofs.Common.{◌≡◌, ◌⊎◌, ℕ, ◌+◌, Bool, List, [], ◌∷◌, ◌++◌, length, map, Option, Some, None, Result, Ok, Err, inl, inr, refl, sym, ◌∙◌, ap, subst, append_assoc, append-nil, zero-add}
+use Rattle.std.proofs.Common.{◌≡◌, ◌⊎◌, ℕ, ◌+◌, Bool, List, [], ◌∷◌, ◌++◌, length, Option, Some, None, Result, Ok, Err, inl, inr, refl, sym, ◌∙◌, ap, subst, append_assoc, append-nil, zero-add}
 use Rattle.ftn_base.specs.declared.fault.FaultKind.{FaultKind}
 use Rattle.ftn_base.specs.declared.fault.FaultKind.TheVariants.{Misplaced}
 use Rattle.ftn_tree.specs.declared.mark.Mark.{Mark}
-use Rattle.ftn_tree.specs.declared.mark.Title.{Title}
 use Rattle.ftn_tree.specs.declared.unit.Unit.{Unit as UnitTree}
 use Rattle.ftn_tree.specs.Nesting.{Row, spelled, held, Nested, Begins}
-use Rattle.ftn_tree.specs.NestFaults.{unclosed, innermost, path_after, kind_in, IsRefused, IsUnfinished, IsNestFault}
+use Rattle.ftn_tree.specs.NestFaults.{Path, titles, innermost, kind_in, IsRefused, IsUnfinished, IsNestFault}
 use Rattle.unit_parse.specs.declared.level.Level.{Level}
 use Rattle.unit_parse.specs.declared.frames.Frame.{Frame}
 use Rattle.unit_parse.specs.Taking.{State, Outcome, Answer, start, take, go_on, take_all, finish, finished, finish_all, nest, Takes, Finishes}
@@ -16,7 +15,8 @@ use Rattle.unit_parse.specs.Answers.{HasTaken, TakesNext, EndsWith}
 use Rattle.unit_parse.proofs.Steps.{state}
 use Rattle.unit_parse.proofs.Reached.{reached, reached_none}
 use Rattle.unit_parse.proofs.Closed.{begins}
-use Rattle.unit_parse.proofs.Unended.{openings, unended}
+use Rattle.unit_parse.proofs.Unended.{openings}
+use Rattle.unit_parse.proofs.LeftOpen.{leaves_open, one_path}
 use Rattle.unit_parse.proofs.Answers.{Units, units_err, units_ok, units_no_err, ok_no_err, taken, goes_through, takes_none, kind_is, unfinished_at, nested_only, nested_ok, nest_fault}
 
 module _ (same : ℕ → ℕ → Bool) where
@@ -44,6 +44,8 @@ module _ (same : ℕ → ℕ → Bool) where
     place = refl;
     before = taken_begins front s was;
     after = takes_none same front m s (length front) kind (sym (zero-add (length front))) was e;
+    path = openings s.frames;
+    leaves = leaves_open same front s was;
     kind_is = kind_is same front s (length front) m kind was e;
   }
 
@@ -100,7 +102,8 @@ module _ (same : ℕ → ℕ → Bool) where
   refused_told marks kind at is s was (Err other) e =
       ap (λ (l : List Mark). nest same l) is.whole
       ∙ stuck is.front is.refused is.rest s other was e
-      ∙ ap (λ (k : FaultKind). Err (k, length is.front)) (kind_is same is.front s (length is.front) is.refused other was e ∙ sym is.kind_is)
+      ∙ ap (λ (k : FaultKind). Err (k, length is.front)) (kind_is same is.front s (length is.front) is.refused other was e
+      ∙ ap (λ (path : Path). kind_in (titles path) is.refused) (sym (one_path same is.path is.front s is.leaves was)) ∙ sym is.kind_is)
       ∙ ap (λ (k : ℕ). Err (kind, k)) (sym is.place)
 
   some_is : (one other : ℕ) → Some one ≡ Some other → one ≡ other
@@ -112,7 +115,7 @@ module _ (same : ℕ → ℕ → Bool) where
   unfinished_told marks kind at is here (frame ∷ frames) was =
       finish_is marks (state here (frame ∷ frames)) was
       ∙ ap (λ (k : ℕ). Err (Misplaced, k))
-      (some_is frame.opening at (ap (λ (l : List (ℕ × Title)). innermost l) (sym (unended same marks start (state here (frame ∷ frames)) 0 was)) ∙ is.place))
+      (some_is frame.opening at (ap (λ (path : Path). innermost path) (sym (one_path same is.path marks (state here (frame ∷ frames)) is.leaves was)) ∙ is.place))
       ∙ ap (λ (k : FaultKind). Err (k, at)) (sym is.kind_is)
 
   pub fault_told : (marks : List Mark) (kind : FaultKind) (at : ℕ) → IsNestFault same marks kind at → nest same marks ≡ Err (kind, at)

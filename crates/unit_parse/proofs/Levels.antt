@@ -8,7 +8,7 @@ use Rattle.ftn_tree.specs.Marks.{is_construct, begins_arm}
 use Rattle.ftn_tree.specs.Regions.{opened, sections_in}
 use Rattle.ftn_tree.specs.Nesting.{Row, none, stands, nest, spelled}
 use Rattle.unit_parse.specs.declared.level.Level.{Level}
-use Rattle.unit_parse.specs.Following.{follow}
+use Rattle.unit_parse.specs.steps.Following.{follow}
 use Rattle.unit_parse.specs.Levels.{fresh, first_head, add_statement, add_nest}
 
 -- the sections that are left

@@ -22,6 +22,8 @@ use Rattle.unit_parse.specs.Taking.{State, Outcome, start, go_on, Takes, take as
 use Rattle.unit_parse.specs.steps.Progress.{IsForm, AddsForm, Holds, Goes, Stays, Stops, StopsAt, refused, nothing}
 use Rattle.unit_parse.proofs.Reached.{reached, reached_none}
 use Rattle.unit_parse.proofs.Closed.{begins}
+use Rattle.unit_parse.proofs.Unended.{openings}
+use Rattle.unit_parse.proofs.LeftOpen.{leaves_open}
 use Rattle.unit_parse.proofs.Answers.{goes_through, takes_none, kind_is}
 
 -- ---- lists
@@ -57,7 +59,7 @@ module _ (tokens : Tokens) where
   one_read range (statement ∷ []) are = (statement, refl, are.0)
   one_read range (statement ∷ other ∷ statements) are = absurd are.1
 
-  first_read : (range : Range) (more : List Range) (statements : List Statement) → AreRead tokens (range ∷ more) statements
+  pub first_read : (range : Range) (more : List Range) (statements : List Statement) → AreRead tokens (range ∷ more) statements
       → (statement : Statement) × (rest : List Statement) × (statements ≡ statement ∷ rest) × IsRead tokens range statement
   first_read range more [] are = absurd are
   first_read range more (statement ∷ rest) are = (statement, rest, refl, are.0)
@@ -109,6 +111,8 @@ module _ (same : ℕ → ℕ → Bool) where
     place = refl;
     before = begins same front last (reached same front [] start last 0 (reached_none same) before);
     after = takes_none same front m last (length front) kind (omega arith) before stops;
+    path = openings last.frames;
+    leaves = leaves_open same front last before;
     kind_is = kind_is same front last (length front) m kind before stops;
   }
 

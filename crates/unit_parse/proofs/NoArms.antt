@@ -1,5 +1,5 @@
 -- Units and interface blocks hold no statement that begins an arm.
-use Rattle.std.proofs.Common.{◌≡◌, ℕ, Bool, true, false, ◌&&◌, List, [], ◌∷◌, Option, Some, None, refl, sym, ◌∙◌, true≢false}
+use Rattle.std.proofs.Common.{◌≡◌, ℕ, Bool, true, false, List, Option, Some, None, refl, sym, true≢false}
 use Rattle.ftn_tree.specs.declared.parts.EndWord.{EndWord}
 use Rattle.ftn_tree.specs.declared.parts.EndWord.TheVariants as word
 use Rattle.ftn_tree.specs.declared.mark.Content.{Content}
@@ -9,15 +9,13 @@ use Rattle.ftn_tree.specs.declared.mark.Mark.TheVariants as mark
 use Rattle.ftn_tree.specs.declared.mark.Region.{Region}
 use Rattle.ftn_tree.specs.declared.mark.Region.TheVariants as region
 use Rattle.ftn_tree.specs.declared.mark.Section.{Section}
-use Rattle.ftn_tree.specs.declared.mark.Section.TheVariants as section
 use Rattle.ftn_tree.specs.declared.mark.Title.{Title}
 use Rattle.ftn_tree.specs.Marks.{belongs, begins_arm, is_construct}
 use Rattle.ftn_tree.specs.Regions.{in_order, interface_named, opened, opened_by, procedure_in, sections_in}
-use Rattle.unit_parse.proofs.Orders.{after, continues, order_step}
+use Rattle.unit_parse.proofs.Heads.{Free, all_fit, free}
 
 abbrev pub NoArms : List Mark → Type 0
-NoArms [] = Unit {0}
-NoArms (m ∷ marks) = (begins_arm m ≡ false) × NoArms marks
+NoArms marks = Free begins_arm marks
 
 abbrev pub is_plain : Content → Bool
 is_plain content.ElseIf = false
@@ -26,19 +24,6 @@ is_plain content.AnyCase = false
 is_plain content.Case = false
 is_plain content.Default = false
 is_plain _ = true
-
-abbrev pub section_plain : Section → Bool
-section_plain (section.Any p) = is_plain p
-section_plain (section.Once p) = is_plain p
-section_plain (section.First p) = is_plain p
-
-abbrev pub all_plain : List Section → Bool
-all_plain [] = true
-all_plain (one ∷ sections) = section_plain one && all_plain sections
-
-both : (a b : Bool) → a && b ≡ true → (a ≡ true) × (b ≡ true)
-both true b e = (refl, e)
-both false b e = absurd (true≢false (sym e))
 
 plain_mark : (m : Mark) (p : Content) → is_plain p ≡ true → belongs p m ≡ true → begins_arm m ≡ false
 plain_mark mark.ElseIf content.ElseIf h e = absurd (true≢false (sym h))
@@ -53,35 +38,11 @@ plain_mark mark.Default content.Default h e = absurd (true≢false (sym h))
 plain_mark mark.Default p h e = absurd (true≢false (sym e))
 plain_mark m p h e = refl
 
-abbrev Goes : Mark → Option (List Section) → Type 0
-Goes m None = Unit {0}
-Goes m (Some sections) = (begins_arm m ≡ false) × (all_plain sections ≡ true)
-
-plain_after : (sections : List Section) (m : Mark) → all_plain sections ≡ true → Goes m (after sections m)
-plain_after [] m h = tt
-plain_after (section.Any p ∷ sections) m h = here (belongs p m) refl (plain_after sections m (both (is_plain p) (all_plain sections) h).1)
-  where
-    here : (b : Bool) → belongs p m ≡ b → Goes m (after sections m) → Goes m (after (section.Any p ∷ sections) m)
-    here true e again = rw e (plain_mark m p (both (is_plain p) (all_plain sections) h).0 e, h)
-    here false e again = rw e again
-plain_after (section.Once p ∷ sections) m h = here (belongs p m) refl
-  where
-    here : (b : Bool) → belongs p m ≡ b → Goes m (after (section.Once p ∷ sections) m)
-    here true e = rw e (plain_mark m p (both (is_plain p) (all_plain sections) h).0 e, (both (is_plain p) (all_plain sections) h).1)
-    here false e = rw e tt
-plain_after (section.First p ∷ sections) m h = here (belongs p m) refl (plain_after sections m (both (is_plain p) (all_plain sections) h).1)
-  where
-    here : (b : Bool) → belongs p m ≡ b → Goes m (after sections m) → Goes m (after (section.First p ∷ sections) m)
-    here true e again = rw e again
-    here false e again = rw e tt
+abbrev pub all_plain : List Section → Bool
+all_plain sections = all_fit is_plain sections
 
 pub no_arms : (marks : List Mark) (sections : List Section) → all_plain sections ≡ true → in_order sections marks ≡ true → NoArms marks
-no_arms [] sections h e = tt
-no_arms (m ∷ marks) sections h e = here (after sections m) (plain_after sections m h) (sym (order_step sections m marks) ∙ e) (λ more plain order. no_arms marks more plain order)
-  where
-    here : (o : Option (List Section)) → Goes m o → continues o marks ≡ true → ((more : List Section) → all_plain more ≡ true → in_order more marks ≡ true → NoArms marks) → NoArms (m ∷ marks)
-    here None goes holds again = absurd (true≢false (sym holds))
-    here (Some more) goes holds again = (goes.0, again more goes.1 holds)
+no_arms = free begins_arm is_plain plain_mark
 
 procedure_plain : (around : Region) → all_plain (sections_in (procedure_in around)) ≡ true
 procedure_plain region.File = refl

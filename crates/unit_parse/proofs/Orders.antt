@@ -7,7 +7,7 @@ use Rattle.ftn_tree.specs.declared.mark.Section.{Section}
 use Rattle.ftn_tree.specs.declared.mark.Section.TheVariants as section
 use Rattle.ftn_tree.specs.Marks.{belongs}
 use Rattle.ftn_tree.specs.Regions.{in_order}
-use Rattle.unit_parse.specs.Following.{follow}
+use Rattle.unit_parse.specs.steps.Following.{follow}
 
 -- what may stand after a statement
 abbrev pub after : List Section → Mark → Option (List Section)

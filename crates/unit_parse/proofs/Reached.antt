@@ -1,6 +1,7 @@
 -- What the statements taken so far are: rows, of which all but the innermost go on with an opening.
 use Rattle.std.proofs.Common.{◌≡◌, ℕ, ◌+◌, Bool, true, false, not, ◌&&◌, nat_le, if◌then◌else◌, List, [], ◌∷◌, ◌++◌, drop, Option, Some, None, option_map, Ok, Err, refl, sym, ◌∙◌, ap, subst, append_assoc, append-nil, suc, arith}
 use Rattle.std.proofs.lemmas.Bool.Decides.{nat_tests}
+use Rattle.ftn_base.specs.Limits.{most_constructs}
 use Rattle.ftn_base.specs.declared.fault.FaultKind.{FaultKind}
 use Rattle.ftn_tree.specs.declared.mark.Mark.{Mark}
 use Rattle.ftn_tree.specs.declared.mark.Mark.TheVariants as mark
@@ -9,10 +10,10 @@ use Rattle.ftn_tree.specs.declared.mark.Section.{Section}
 use Rattle.ftn_tree.specs.declared.mark.Title.{Title}
 use Rattle.ftn_tree.specs.Marks.{is_construct}
 use Rattle.ftn_tree.specs.Regions.{region_of, depth, ends, in_order, opened, sections_in}
-use Rattle.ftn_tree.specs.Nesting.{Row, none, stands, nest, spelled, heads, IsNested, may_stand, most_constructs}
+use Rattle.ftn_tree.specs.Nesting.{Row, none, stands, nest, spelled, heads, IsNested, may_stand}
 use Rattle.unit_parse.specs.declared.level.Level.{Level}
 use Rattle.unit_parse.specs.declared.frames.Frame.{Frame}
-use Rattle.unit_parse.specs.Following.{follow}
+use Rattle.unit_parse.specs.steps.Following.{follow}
 use Rattle.unit_parse.specs.Levels.{add_statement, add_nest}
 use Rattle.unit_parse.specs.Taking.{State, Outcome, start, path_of, allows, add, at_stage, placed, place, refused_kind, shut, close, take, go_on, take_all}
 use Rattle.unit_parse.proofs.Orders.{continues, order_step, order_none, followed}

@@ -1,16 +1,17 @@
 -- What one statement does to the stack.
 use Rattle.std.proofs.Common.{◌≡◌, ℕ, Bool, true, false, not, ◌&&◌, nat_le, if◌then◌else◌, List, ◌∷◌, drop, Option, Some, None, option_map, Ok, Err, refl, sym, ◌∙◌, ap, true≢false, suc, arith}
 use Rattle.std.proofs.lemmas.Bool.Decides.{nat_tests}
+use Rattle.ftn_base.specs.Limits.{most_constructs}
 use Rattle.ftn_tree.specs.declared.mark.Mark.{Mark}
 use Rattle.ftn_tree.specs.declared.mark.Mark.TheVariants as mark
 use Rattle.ftn_tree.specs.declared.mark.Section.{Section}
 use Rattle.ftn_tree.specs.declared.mark.Title.{Title}
 use Rattle.ftn_tree.specs.Marks.{is_construct}
 use Rattle.ftn_tree.specs.Regions.{depth, ends, in_order, sections_in}
-use Rattle.ftn_tree.specs.Nesting.{may_stand, most_constructs}
+use Rattle.ftn_tree.specs.Nesting.{may_stand}
 use Rattle.unit_parse.specs.declared.level.Level.{Level}
 use Rattle.unit_parse.specs.declared.frames.Frame.{Frame}
-use Rattle.unit_parse.specs.Following.{follow}
+use Rattle.unit_parse.specs.steps.Following.{follow}
 use Rattle.unit_parse.specs.Levels.{add_statement, add_nest}
 use Rattle.unit_parse.specs.Taking.{State, path_of, allows, add, open_nest, placed, place, refused_kind, shut, take}
 use Rattle.unit_parse.proofs.Orders.{continues, order_step, followed}

@@ -4,19 +4,20 @@ use Rattle.ftn_base.specs.declared.fault.FaultKind.{FaultKind}
 use Rattle.ftn_tree.specs.declared.mark.Mark.{Mark}
 use Rattle.ftn_tree.specs.declared.mark.Mark.TheVariants as mark
 use Rattle.ftn_tree.specs.declared.mark.Title.{Title}
-use Rattle.ftn_tree.specs.NestFaults.{unclosed_from}
+use Rattle.ftn_tree.specs.NestFaults.{Path, titles}
 use Rattle.unit_parse.specs.declared.level.Level.{Level}
 use Rattle.unit_parse.specs.declared.frames.Frame.{Frame}
-use Rattle.unit_parse.specs.Following.{follow}
+use Rattle.unit_parse.specs.steps.Following.{follow}
 use Rattle.unit_parse.specs.Taking.{State, Outcome, Answer, path_of, allows, add, at_stage, placed, place, refused_kind, shut, ends_first, close, take, go_on, take_all}
+use Rattle.unit_parse.specs.steps.Unclosed.{unclosed_from}
 use Rattle.unit_parse.proofs.Levels.{left}
 use Rattle.unit_parse.proofs.Steps.{state}
 
 -- the openings of frames with their numbers
-abbrev pub openings : List Frame → List (ℕ × Title)
+abbrev pub openings : List Frame → Path
 openings frames = map (λ frame. (frame.opening, frame.what)) frames
 
-pub path_openings : (frames : List Frame) → map (λ one. one.1) (openings frames) ≡ path_of frames
+pub path_openings : (frames : List Frame) → titles (openings frames) ≡ path_of frames
 path_openings [] = refl
 path_openings (frame ∷ frames) = ap (λ (l : List Title). frame.what ∷ l) (path_openings frames)
 
@@ -51,10 +52,10 @@ module _ (same : ℕ → ℕ → Bool) where
   -- what a statement leaves open
   one_more : (s next : State) (n : ℕ) (m : Mark) (rest : List Mark) → take same s n m ≡ Ok next
       → unclosed_from (openings s.frames) n (m ∷ rest) ≡ unclosed_from (openings next.frames) (n + 1) rest
-  one_more s next n (mark.Open what) rest e = ap (λ (l : List (ℕ × Title)). unclosed_from l (n + 1) rest) (unended_opens s next n what e)
-  one_more s next n mark.PlainEnd rest e = ap (λ (l : List (ℕ × Title)). unclosed_from l (n + 1) rest) (unended_ends s.here s.frames next n mark.PlainEnd e)
-  one_more s next n (mark.End by) rest e = ap (λ (l : List (ℕ × Title)). unclosed_from l (n + 1) rest) (unended_ends s.here s.frames next n (mark.End by) e)
-  one_more s next n m rest e = ap (λ (l : List (ℕ × Title)). unclosed_from l (n + 1) rest) (unended_stands s next n m e (λ t. refl))
+  one_more s next n (mark.Open what) rest e = ap (λ (path : Path). unclosed_from path (n + 1) rest) (unended_opens s next n what e)
+  one_more s next n mark.PlainEnd rest e = ap (λ (path : Path). unclosed_from path (n + 1) rest) (unended_ends s.here s.frames next n mark.PlainEnd e)
+  one_more s next n (mark.End by) rest e = ap (λ (path : Path). unclosed_from path (n + 1) rest) (unended_ends s.here s.frames next n (mark.End by) e)
+  one_more s next n m rest e = ap (λ (path : Path). unclosed_from path (n + 1) rest) (unended_stands s next n m e (λ t. refl))
 
   unended_on : (s last : State) (n : ℕ) (m : Mark) (rest : List Mark) (o : Outcome) → take same s n m ≡ o → go_on o n (λ s. take_all same s (n + 1) rest) ≡ Ok last
       → ((next : State) → take_all same next (n + 1) rest ≡ Ok last → unclosed_from (openings next.frames) (n + 1) rest ≡ openings last.frames)

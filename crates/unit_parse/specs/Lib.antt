@@ -1,7 +1,7 @@
 pub mod Answers
 pub mod Decided
-pub mod Following
 pub mod Levels
 pub mod Taking
 pub mod Parsing
 pub mod steps
+pub mod Tiling

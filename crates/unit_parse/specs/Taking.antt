@@ -1,5 +1,6 @@
 -- The stack of openings without an ending, and what each statement does to it. It serves the proof of the code.
 use Rattle.std.specs.Prelude.{◌≡◌, ℕ, ◌+◌, Bool, true, false, not, ◌&&◌, ◌||◌, nat_le, if◌then◌else◌, List, [], ◌∷◌, map, drop, Option, Some, None, Result, Ok, Err}
+use Rattle.ftn_base.specs.Limits.{most_constructs}
 use Rattle.ftn_base.specs.declared.fault.FaultKind.{FaultKind}
 use Rattle.ftn_base.specs.declared.fault.FaultKind.TheVariants.{Misplaced, OutOfProfile, TooDeep}
 use Rattle.ftn_tree.specs.declared.mark.Mark.{Mark}
@@ -10,13 +11,12 @@ use Rattle.ftn_tree.specs.declared.mark.Title.{Title}
 use Rattle.ftn_tree.specs.declared.unit.Unit.{Unit as UnitTree}
 use Rattle.ftn_tree.specs.Marks.{opens_construct, is_implicit, is_characteristic}
 use Rattle.ftn_tree.specs.Regions.{depth, in_main, in_loop, ends, opened, sections_in}
-use Rattle.ftn_tree.specs.Nesting.{most_constructs}
 use Rattle.ftn_tree.specs.NestFaults.{is_body}
 use Rattle.unit_parse.specs.declared.level.Level.{Level}
 use Rattle.unit_parse.specs.declared.frames.Frame.{Frame}
 use Rattle.unit_parse.specs.declared.fault.NestFault.{NestFault}
 use Rattle.unit_parse.specs.declared.fault.NestFault.TheVariants as fault
-use Rattle.unit_parse.specs.Following.{follow}
+use Rattle.unit_parse.specs.steps.Following.{follow}
 use Rattle.unit_parse.specs.Levels as levels
 
 -- the innermost frame is the first

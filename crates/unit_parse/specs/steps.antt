@@ -1,1 +1,4 @@
 pub mod Progress
+pub mod Unclosed
+pub mod Following
+pub mod Openings

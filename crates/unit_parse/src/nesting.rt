@@ -11,15 +11,12 @@ use crate::frames::{Frame, depth, in_loop, in_main};
 use crate::level::{Level, first_head};
 use crate::order::{follow, opened, sections_in};
 use crate::words::{describes_procedure, ends, opens_construct};
-use ftn_base::{FaultKind, NoMemory};
+use ftn_base::{FaultKind, MOST_CONSTRUCTS, NoMemory};
 use ftn_tree::{Form, Mark, Region, Statement, Title, Tokens, Unit};
 use sqlite_items::Items;
 use std::alloc::Global;
 use std::marker::Model;
 use std::mem;
-
-/// How many constructs may be open at once.
-const MOST_CONSTRUCTS: usize = 100;
 
 /// The nesting of the statements that were taken so far.
 #[derive(Drop)]

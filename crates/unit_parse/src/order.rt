@@ -2,7 +2,7 @@
 
 ghost use Rattle.std.specs.Prelude.{◌≡◌, ◌≤◌, length, drop};
 ghost use Rattle.ftn_tree.specs.Regions as regions;
-ghost use Rattle.unit_parse.specs.Following as spec;
+ghost use Rattle.unit_parse.specs.steps.Following as spec;
 
 use crate::words::belongs;
 use ftn_tree::{Content, EndWord, Mark, Region, Section, Title};

@@ -5,12 +5,11 @@ ghost use Rattle.ftn_tree.specs.FileFaults as files;
 ghost use Rattle.unit_parse.specs.steps.Progress as spec;
 
 use crate::fault::{NestFault, ParseFault};
+use crate::forms::read_form;
 use crate::nesting::Nesting;
-use exec_parse::executable;
 use expr_parse::StatementFault;
 use ftn_base::{FaultKind, NoMemory, Range};
 use ftn_tree::{Form, Mark, Statement, Tokens};
-use spec_parse::specification;
 use sqlite_items::Items;
 use std::alloc::Global;
 
@@ -30,19 +29,6 @@ pub fn first_bytes(tokens: &Tokens, at: Range) -> Range
     match tokens.items.get(at.start as usize) {
         Some(first) => first.range,
         None => Range { start: 0, end: 0 },
-    }
-}
-
-/// Reads the statement that the tokens of that range of numbers are.
-fn read_form(alloc: Global, tokens: &Tokens, at: Range) -> Result<Form, StatementFault>
-    ensures { spec.IsForm tokens.now at result }
-{
-    match executable(alloc, tokens, at) {
-        Ok(form) => Ok(form),
-        Err(StatementFault::NotAStatement | StatementFault::OutOfProfile) => {
-            specification(alloc, tokens, at)
-        }
-        Err(fault) => Err(fault),
     }
 }
 

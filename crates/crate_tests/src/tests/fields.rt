@@ -22,3 +22,12 @@ pub fn numbers(alloc: Global, text: &[u8]) -> Option<Vec<u32>> {
 pub fn number(text: &[u8]) -> Option<u32> {
     str::from_utf8(text).ok()?.parse::<u32>().ok()
 }
+
+/// The lists of numbers that `/` separates.
+pub fn lists(alloc: Global, text: &[u8]) -> Option<Vec<Vec<u32>>> {
+    let mut lists = Vec::new(alloc);
+    for field in text.split(|byte| *byte == b'/') {
+        lists.push(numbers(alloc, field)?).ok()?;
+    }
+    Some(lists)
+}

@@ -1,16 +1,12 @@
-//! The order of modules, and what they give each other.
+//! The order of modules.
 
-ghost use Rattle.std.specs.Prelude.{◌≡◌, ◌<◌, ◌&&◌, true, length, nat_lt, All};
-ghost use Rattle.std.specs.List.{list_all};
+ghost use Rattle.std.specs.Prelude.{◌≡◌, ◌<◌, true, All};
 ghost use Rattle.ftn_base.specs.ModuleUses.{AreKnown};
 ghost use Rattle.module_graph.specs.Uses.{used_lists};
 
 use crate::tests::fields::{halves, numbers};
-use ftn_base::{Edition, EntityId, Name};
 use module_graph::{GraphFault, order};
-use sqlite_items::Items;
 use std::alloc::Global;
-use use_assoc::{Access, UseFault, UseItem, UseList, accessible, exports};
 
 fn is_below(list: &[u32], count: usize) -> bool
     ensures { result ≡ true → All (λ used. used < count) list.now }
@@ -91,105 +87,10 @@ fn orders(alloc: Global) -> Option<bool> {
     Some(ends && few.as_slice() == [2, 1, 0].as_slice() && ring.as_slice() == [4095].as_slice())
 }
 
-fn name(alloc: Global, bytes: &[u8]) -> Option<Name> {
-    Name::new(alloc, bytes, Edition::F90).ok()
-}
-
-/// Names of one letter, and the numbers of their entities, from the given one on.
-fn pairs(alloc: Global, letters: &[u8], from: u32) -> Option<Vec<(Name, EntityId)>> {
-    let mut made = Vec::new(alloc);
-    let mut number = from;
-    for letter in letters {
-        made.push((name(alloc, &[*letter])?, EntityId(number)))
-            .ok()?;
-        number = number.saturating_add(1);
-    }
-    Some(made)
-}
-
-/// Whether these are the pairs of the letters and the numbers.
-fn are(pairs: &[(Name, EntityId)], letters: &[u8], numbers: &[u32]) -> bool {
-    let names = pairs
-        .iter()
-        .zip(letters)
-        .all(|(pair, letter)| pair.0.bytes() == [*letter].as_slice());
-    let entities = pairs
-        .iter()
-        .zip(numbers)
-        .all(|(pair, number)| pair.1.0 == *number);
-    pairs.len() == letters.len() && letters.len() == numbers.len() && names && entities
-}
-
-fn used(alloc: Global, module: u32, only: bool, local: &[u8], source: &[u8]) -> Option<UseList> {
-    let mut items = Vec::new(alloc);
-    items
-        .push(UseItem {
-            local: name(alloc, local)?,
-            source: name(alloc, source)?,
-        })
-        .ok()?;
-    let items = Items::from_vec(items);
-    Some(UseList {
-        module,
-        only,
-        items,
-    })
-}
-
-fn fits(count: usize, lists: &[UseList]) -> bool
-    ensures { result ≡ list_all (λ list. nat_lt list.«module» count && nat_lt (length list.items) 4294967296) lists.now }
-{
-    lists.iter().all(|list| (list.module as usize) < count && list.items.len() < 4294967296)
-}
-
-/// What the statements give, or `NoMemory` where they are none to ask for.
-#[tactic(auto, using(crate::proofs::Rows::modules_fit, crate::proofs::Rows::items_fit))]
-fn given(
-    alloc: Global,
-    modules: &[Vec<(Name, EntityId)>],
-    lists: &[UseList],
-) -> Result<Vec<(Name, EntityId)>, UseFault> {
-    if lists.len() >= 4294967296 || !fits(modules.len(), lists) {
-        return Err(UseFault::NoMemory);
-    }
-    accessible(alloc, modules, lists)
-}
-
-/// A rename of one module's name and one name of another; and a name that isn't exported.
-fn uses(alloc: Global) -> Option<bool> {
-    let mut modules = Vec::new(alloc);
-    modules.push(pairs(alloc, b"abc", 1)?).ok()?;
-    modules.push(pairs(alloc, b"cd", 3)?).ok()?;
-    let mut lists = Vec::new(alloc);
-    lists.push(used(alloc, 0, false, b"x", b"a")?).ok()?;
-    lists.push(used(alloc, 1, true, b"y", b"d")?).ok()?;
-    let found = given(alloc, &modules, &lists).ok()?;
-    lists.push(used(alloc, 1, true, b"y", b"z")?).ok()?;
-    let lost = given(alloc, &modules, &lists);
-    let told = matches!(lost, Err(UseFault::NotPublic { list: 2, item: 0 }));
-    Some(told && are(&found, b"xbcy", &[1, 2, 3, 4]))
-}
-
-fn exported(alloc: Global) -> Option<bool> {
-    let mut private = Vec::new(alloc);
-    private.push(name(alloc, b"c")?).ok()?;
-    let access = Access {
-        default_public: true,
-        public: Items::new(alloc),
-        private: Items::from_vec(private),
-    };
-    let own = pairs(alloc, b"ab", 1)?;
-    let used = pairs(alloc, b"cd", 3)?;
-    let found = exports(alloc, &own, &used, &access).ok()?;
-    Some(are(&found, b"abd", &[1, 2, 4]))
-}
-
 #[test]
-fn modules_are_ordered_and_used(rt: HostRuntime) {
+fn modules_are_ordered(rt: HostRuntime) {
     for row in GRAPHS.split(|byte| *byte == b';') {
         assert!(rt; is_ordered(rt.alloc(), row) == Some(true));
     }
     assert!(rt; orders(rt.alloc()) == Some(true));
-    assert!(rt; uses(rt.alloc()) == Some(true));
-    assert!(rt; exported(rt.alloc()) == Some(true));
 }

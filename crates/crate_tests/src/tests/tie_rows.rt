@@ -3,7 +3,7 @@
 ghost use Rattle.std.specs.Prelude.{◌≡◌, ◌<◌, ◌^◌, true, sum, All};
 ghost use Rattle.ftn_base.specs.Storage.{IsWithin};
 
-use crate::tests::fields::{halves, numbers};
+use crate::tests::fields::{halves, lists, numbers};
 use equiv_class::{TieFault, classes};
 use ftn_base::Tie;
 use std::alloc::Global;
@@ -48,7 +48,8 @@ fn are_small(sizes: &[u32]) -> bool
     true
 }
 
-fn ties(alloc: Global, numbers: &[u32]) -> Option<Vec<Tie>> {
+/// The ties of these numbers, four for each.
+pub fn ties(alloc: Global, numbers: &[u32]) -> Option<Vec<Tie>> {
     let mut ties = Vec::new(alloc);
     for four in numbers.chunks_exact(4) {
         if let [a, at_a, b, at_b] = four {
@@ -57,15 +58,6 @@ fn ties(alloc: Global, numbers: &[u32]) -> Option<Vec<Tie>> {
         }
     }
     Some(ties)
-}
-
-/// The lists of numbers that `/` separates.
-fn lists(alloc: Global, text: &[u8]) -> Option<Vec<Vec<u32>>> {
-    let mut lists = Vec::new(alloc);
-    for field in text.split(|byte| *byte == b'/') {
-        lists.push(numbers(alloc, field)?).ok()?;
-    }
-    Some(lists)
 }
 
 /// Whether these sizes and ties are answered by these lists.

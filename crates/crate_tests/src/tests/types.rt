@@ -37,16 +37,22 @@ fn shape(alloc: Global, ty: Ty, high: i32) -> Option<Shape> {
     Some(Shape { ty, bounds })
 }
 
+fn two_shapes(alloc: Global, high: i32) -> Option<Vec<Shape>> {
+    let mut shapes = Vec::new(alloc);
+    shapes.push(shape(alloc, Ty::Integer, 2)?).ok()?;
+    shapes
+        .push(shape(alloc, Ty::Character(Length::Assumed), high)?)
+        .ok()?;
+    Some(shapes)
+}
+
 /// Lists that differ in bounds, and then in length.
 fn shapes(alloc: Global) -> Option<bool> {
-    let one = [
-        shape(alloc, Ty::Integer, 2)?,
-        shape(alloc, Ty::Character(Length::Assumed), 3)?,
-    ];
-    let other = [
-        shape(alloc, Ty::Integer, 2)?,
-        shape(alloc, Ty::Character(Length::Assumed), 4)?,
-    ];
+    let one = two_shapes(alloc, 3)?;
+    let other = two_shapes(alloc, 4)?;
+    if one.len() != 2 || other.len() != 2 {
+        return None;
+    }
     let bounds = matches!(same_shape(&one, &other), Err(Mismatch { at: 1 }));
     let shorter = matches!(same_shape(&one, &one[..1]), Err(Mismatch { at: 1 }));
     Some(bounds && shorter && same_shape(&one, &one).is_ok())

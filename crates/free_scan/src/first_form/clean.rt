@@ -8,19 +8,16 @@ ghost use Rattle.free_scan.specs.Spelling.{is_some_row};
 
 use crate::first_form::names::{NameSet, gather};
 use crate::first_form::program::{Operand, Program, Statement, Sum, Term};
-use ftn_base::{Edition, Name, NoMemory, is_intrinsic, is_keyword, is_name};
+use ftn_base::{Edition, GREATEST_INTEGER, Name, NoMemory, is_intrinsic, is_keyword, is_name};
 use sqlite_items::Items;
 use std::alloc::Global;
-
-/// The greatest whole number that a variable may have.
-const GREATEST: u32 = 2_147_483_647;
 
 fn operand_fits(operand: &Operand) -> bool
     ensures { result ≡ spec.operand_fits operand.now }
 {
     match operand {
         Operand::Variable(_) => true,
-        Operand::Whole(value) => *value <= GREATEST,
+        Operand::Whole(value) => *value <= GREATEST_INTEGER,
     }
 }
 

@@ -4,8 +4,7 @@ ghost use Rattle.std.specs.Prelude.{◌≡◌};
 ghost use Rattle.ftn_base.specs.Letters.{is_within};
 ghost use Rattle.free_scan.specs.Lines as spec;
 
-/// How many bytes a line may have before its LF (3.3.1).
-const LINE_LIMIT: usize = 132;
+use ftn_base::LINE_LIMIT;
 
 /// Whether the byte is a printable one or a space.
 fn is_printable(byte: u8) -> bool

@@ -3,7 +3,7 @@
 ghost use Rattle.std.specs.Prelude.{◌≡◌, ◌++◌, ◌∷◌, [], true, not, if◌then◌else◌, Some, None, IfOk};
 ghost use Rattle.std.specs.List.{flat_map};
 ghost use Rattle.free_scan.specs.Clean.{are_distinct, is_among};
-ghost use Rattle.free_scan.specs.Fresh.{are_fresh};
+ghost use Rattle.free_scan.specs.steps.Fresh.{are_fresh};
 
 use ftn_base::{Name, NoMemory};
 use indexmap::IndexSet;

@@ -3,7 +3,7 @@
 ghost use Rattle.std.specs.Prelude.{◌≡◌, ◌≤◌, ◌<◌, ◌^◌, ◌+◌, length, map, List, ℕ, Some, IfOk, MatchOption, ⊤};
 ghost use Rattle.std.specs.List.{prefix_len};
 ghost use Rattle.free_scan.specs.FirstForm.{IsProgramText, Lacks};
-ghost use Rattle.free_scan.specs.Reading as spec;
+ghost use Rattle.free_scan.specs.steps.Reading as spec;
 ghost use Rattle.free_scan.specs.Spelling.{lexeme_of, lexeme_rows};
 ghost use Rattle.free_scan.specs.Tokens.{tokens_of};
 ghost use Rattle.free_scan.specs.declared.first_form.program.Program.{Program};
@@ -68,7 +68,7 @@ fn count_declarations(rows: &[&[PlacedPiece]]) -> usize
     rows.iter().take_while(|row| is_declaration(row)).count()
 }
 
-#[tactic(auto, unfolding(crate::specs::Reading::read_body))]
+#[tactic(auto, unfolding(crate::specs::steps::Reading::read_body))]
 fn read_body(
     alloc: Global,
     name: Name,
@@ -90,7 +90,7 @@ fn read_body(
     }))
 }
 
-#[tactic(auto, unfolding(crate::specs::Reading::read_program))]
+#[tactic(auto, unfolding(crate::specs::steps::Reading::read_program))]
 fn read_program(alloc: Global, rows: &[&[PlacedPiece]]) -> Result<Option<Program>, NoMemory>
     ensures { IfOk result (λ found. found ≡ spec.read_program (map (λ row. map lexeme_of row.now) rows.now)) }
 {
@@ -106,7 +106,7 @@ fn read_program(alloc: Global, rows: &[&[PlacedPiece]]) -> Result<Option<Program
     read_body(alloc, name, body)
 }
 
-#[tactic(auto, unfolding(crate::specs::Reading::read_clean))]
+#[tactic(auto, unfolding(crate::specs::steps::Reading::read_clean))]
 fn read_clean(alloc: Global, pieces: &[PlacedPiece]) -> Result<Option<Program>, NoMemory>
     ensures { IfOk result (λ found. found ≡ spec.read_clean (lexeme_rows pieces.now)) }
 {

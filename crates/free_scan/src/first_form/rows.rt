@@ -4,16 +4,13 @@ ghost use Rattle.std.specs.List.{slice_split};
 ghost use Rattle.std.specs.Option.{option_map};
 ghost use Rattle.std.specs.Prelude.{◌≡◌, map, filter, IfOk};
 ghost use Rattle.std.specs.Str.{bytes_eq};
-ghost use Rattle.free_scan.specs.Reading as spec;
+ghost use Rattle.free_scan.specs.steps.Reading as spec;
 ghost use Rattle.free_scan.specs.Spelling.{is_some_row, lexeme_of, number_of, rows_of};
 ghost use Rattle.free_scan.specs.Tokens.{is_line_end};
 
 use crate::first_form::token::{PieceKind, PlacedPiece};
-use ftn_base::NoMemory;
+use ftn_base::{GREATEST_INTEGER, NoMemory};
 use std::alloc::Global;
-
-/// The greatest whole number that a variable may have.
-const GREATEST: u64 = 2_147_483_647;
 
 /// Whether the bytes are that text.
 pub fn is_text(bytes: &[u8], text: &[u8]) -> bool
@@ -67,7 +64,7 @@ pub fn whole_value(digits: &[u8]) -> Option<u32>
     let mut value = 0;
     for digit in digits {
         value = 10 * value + u64::from(digit.saturating_sub(b'0'));
-        if value > GREATEST {
+        if value > u64::from(GREATEST_INTEGER) {
             return None;
         }
     }

@@ -1,7 +1,7 @@
 //! Statements, each read from its row of tokens.
 
 ghost use Rattle.std.specs.Prelude.{◌≡◌, map, if◌then◌else◌, Some, None, IfOk};
-ghost use Rattle.free_scan.specs.Reading as spec;
+ghost use Rattle.free_scan.specs.steps.Reading as spec;
 ghost use Rattle.free_scan.specs.Spelling.{lexeme_of};
 
 use crate::first_form::program::{Operand, Sign, Statement, Sum, Term};
@@ -98,7 +98,7 @@ fn read_terms(alloc: Global, row: &[PlacedPiece]) -> Result<Option<Items<Term>>,
     }
 }
 
-#[tactic(auto, unfolding(crate::specs::Reading::read_sum))]
+#[tactic(auto, unfolding(crate::specs::steps::Reading::read_sum))]
 fn read_sum(alloc: Global, row: &[PlacedPiece]) -> Result<Option<Sum>, NoMemory>
     ensures { IfOk result (λ found. found ≡ spec.read_sum (map lexeme_of row.now)) }
 {
@@ -163,7 +163,7 @@ pub fn is_declaration(row: &[PlacedPiece]) -> bool
 }
 
 /// The names that a row declares (5.1).
-#[tactic(auto, unfolding(crate::specs::Reading::read_declaration))]
+#[tactic(auto, unfolding(crate::specs::steps::Reading::read_declaration))]
 pub fn read_declaration(alloc: Global, row: &[PlacedPiece]) -> Result<Option<Items<Name>>, NoMemory>
     ensures { IfOk result (λ found. found ≡ spec.read_declaration (map lexeme_of row.now)) }
 {
@@ -211,7 +211,7 @@ fn read_print(alloc: Global, row: &[PlacedPiece]) -> Result<Option<Statement>, N
 }
 
 /// The executable statement that a row spells (7.5.1, 9.4.2).
-#[tactic(auto, unfolding(crate::specs::Reading::read_statement))]
+#[tactic(auto, unfolding(crate::specs::steps::Reading::read_statement))]
 pub fn read_statement(alloc: Global, row: &[PlacedPiece]) -> Result<Option<Statement>, NoMemory>
     ensures { IfOk result (λ found. found ≡ spec.read_statement (map lexeme_of row.now)) }
 {

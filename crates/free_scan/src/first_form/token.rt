@@ -83,7 +83,7 @@ fn mark_at(first: u8, rest: &[u8]) -> Option<(PieceKind, usize)>
 }
 
 /// The piece that begins with this byte, and what follows it.
-#[tactic(auto, using(crate::proofs::PiecesLaws::run_fits))]
+#[tactic(auto, using(crate::proofs::PieceLaws::run_fits))]
 fn piece_at(first: u8, rest: &[u8]) -> Option<(PieceKind, usize)>
     ensures { result ≡ pieces.front (first ∷ rest.now) }
 {

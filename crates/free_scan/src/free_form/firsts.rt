@@ -3,7 +3,7 @@
 ghost use Rattle.std.specs.Prelude.{◌≡◌, None, [], ◌∷◌};
 ghost use Rattle.ftn_tree.specs.Breaks as breaks;
 ghost use Rattle.ftn_tree.specs.Breaks.{only_if};
-ghost use Rattle.free_scan.specs.Firsts as spec;
+ghost use Rattle.free_scan.specs.steps.Firsts as spec;
 
 use ftn_base::FaultKind;
 use std::marker::Model;

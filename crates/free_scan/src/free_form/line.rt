@@ -5,7 +5,7 @@ ghost use Rattle.std.specs.Prelude.{◌≡◌, ◌+◌, ◌≤◌, ◌-◌, None
 ghost use Rattle.ftn_base.specs.Letters.{is_blank as blank};
 ghost use Rattle.ftn_tree.specs.Code as code;
 ghost use Rattle.ftn_tree.specs.Lines as lines;
-ghost use Rattle.free_scan.specs.PlainText as plain;
+ghost use Rattle.free_scan.specs.steps.PlainText as plain;
 
 use crate::free_form::pieces::after;
 use ftn_base::is_blank;

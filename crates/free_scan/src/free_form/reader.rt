@@ -4,20 +4,17 @@ ghost use Rattle.std.specs.Prelude.{◌≡◌, ◌<◌, ◌≤◌, ◌+◌, ◌^
 ghost use Rattle.ftn_tree.specs.Breaks.{line_breaches, long_line};
 ghost use Rattle.ftn_tree.specs.Lines.{Line};
 ghost use Rattle.ftn_tree.specs.Logical.{after_line, line_glyphs};
-ghost use Rattle.free_scan.specs.Firsts.{least};
-ghost use Rattle.free_scan.specs.LinesLeft as left;
-ghost use Rattle.free_scan.specs.Scanning as spec;
+ghost use Rattle.free_scan.specs.steps.Firsts.{least};
+ghost use Rattle.free_scan.specs.steps.LinesLeft as left;
+ghost use Rattle.free_scan.specs.steps.Scanning as spec;
 
 use crate::free_form::carried::{Carried, count_at, is_gap, open_at, said, skipped, stands_alone};
 use crate::free_form::firsts::Firsts;
 use crate::free_form::line::{before_mark, goes_on, indent, is_comment};
 use crate::free_form::scanner::{Scanner, TextEnd};
-use ftn_base::{Edition, FaultKind, NoMemory, continuation_limit};
+use ftn_base::{Edition, FaultKind, LINE_LIMIT, NoMemory, continuation_limit};
 use sqlite_items::Items;
 use std::alloc::Global;
-
-/// How many bytes a line may have before its end (3.3.1).
-const LINE_LIMIT: usize = 132;
 
 /// What a line carries over to the next one, if it goes on.
 fn carried_if(goes_on: bool, end: TextEnd, count: u32, mark: u32) -> Option<Carried>

@@ -3,9 +3,9 @@
 ghost use Rattle.std.specs.Prelude.{◌≡◌, ◌<◌, ◌^◌, ◌+◌, ◌++◌, None, length, IfOk, OnOk};
 ghost use Rattle.ftn_tree.specs.Breaks.{piece_breaches};
 ghost use Rattle.ftn_tree.specs.Reading.{over_run, token_of};
-ghost use Rattle.free_scan.specs.Firsts.{least};
-ghost use Rattle.free_scan.specs.PlainText as spec;
-ghost use Rattle.free_scan.specs.PlainText.{adjoining};
+ghost use Rattle.free_scan.specs.steps.Firsts.{least};
+ghost use Rattle.free_scan.specs.steps.PlainText as spec;
+ghost use Rattle.free_scan.specs.steps.PlainText.{adjoining};
 
 use crate::free_form::firsts::Firsts;
 use crate::free_form::line::{calm_len, is_outside, is_wrong, quote_after};

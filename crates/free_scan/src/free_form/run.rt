@@ -5,8 +5,8 @@ ghost use Rattle.std.specs.Prelude.{◌≡◌, ◌<◌, ◌≤◌, ◌^◌, ◌+
 ghost use Rattle.ftn_tree.specs.Breaks.{piece_breaches};
 ghost use Rattle.ftn_tree.specs.Reading as reading;
 ghost use Rattle.ftn_tree.specs.Reading.{over_run, token_of};
-ghost use Rattle.free_scan.specs.Firsts.{least};
-ghost use Rattle.free_scan.specs.Runs.{Fits};
+ghost use Rattle.free_scan.specs.steps.Firsts.{least};
+ghost use Rattle.free_scan.specs.steps.Runs.{Fits};
 
 use crate::free_form::firsts::Firsts;
 use crate::free_form::pieces::{after, front};
@@ -28,7 +28,7 @@ pub(crate) struct Run {
 impl Model for Run {
     ghost use Rattle.std.specs.Prelude.{List, ℕ};
     ghost use Rattle.ftn_tree.specs.declared.piece.Spot.{Spot};
-    ghost use Rattle.free_scan.specs.Runs.{IsRun};
+    ghost use Rattle.free_scan.specs.steps.Runs.{IsRun};
 
     ghost Value = { List ℕ × List Spot };
 

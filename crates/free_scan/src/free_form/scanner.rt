@@ -6,9 +6,9 @@ ghost use Rattle.ftn_tree.specs.Breaks.{wrong_bytes};
 ghost use Rattle.ftn_tree.specs.Code as code;
 ghost use Rattle.ftn_tree.specs.Code.{open_after};
 ghost use Rattle.ftn_tree.specs.Logical.{glyph, glyphs, gap, cut, is_cut};
-ghost use Rattle.free_scan.specs.Firsts.{least};
-ghost use Rattle.free_scan.specs.PlainText.{with_row};
-ghost use Rattle.free_scan.specs.Scanning as spec;
+ghost use Rattle.free_scan.specs.steps.Firsts.{least};
+ghost use Rattle.free_scan.specs.steps.PlainText.{with_row};
+ghost use Rattle.free_scan.specs.steps.Scanning as spec;
 
 use crate::free_form::firsts::Firsts;
 use crate::free_form::line::{is_outside, is_wrong, quote_after};
@@ -33,7 +33,7 @@ pub(crate) struct Scanner {
 }
 
 impl Model for Scanner {
-    ghost use Rattle.free_scan.specs.Scanning as spec;
+    ghost use Rattle.free_scan.specs.steps.Scanning as spec;
 
     ghost Value = { spec.State };
 

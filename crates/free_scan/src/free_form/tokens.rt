@@ -2,14 +2,15 @@
 
 ghost use Rattle.std.specs.List.{flat_map};
 ghost use Rattle.std.specs.Prelude.{◌≡◌, ◌<◌, ◌≤◌, ◌+◌, ◌-◌, ◌^◌, [], None, drop, OnOk, IfOk, IfErr, length};
+ghost use Rattle.ftn_base.specs.Limits.{most_file_bytes};
 ghost use Rattle.ftn_tree.specs.Breaks.{breaches_from, breaches_of, end_breaches, long_line};
 ghost use Rattle.ftn_tree.specs.Lines.{code_lines, line_starts, lines_of};
 ghost use Rattle.ftn_tree.specs.Logical.{row_of};
 ghost use Rattle.ftn_tree.specs.Reading.{tokens_of};
-ghost use Rattle.free_scan.specs.Firsts.{least, IsFirstOf};
+ghost use Rattle.free_scan.specs.steps.Firsts.{least, IsFirstOf};
 ghost use Rattle.free_scan.specs.ScanFaults.{IsScanFault, HasTicked};
-ghost use Rattle.free_scan.specs.LinesLeft as left;
-ghost use Rattle.free_scan.specs.Scanning as spec;
+ghost use Rattle.free_scan.specs.steps.LinesLeft as left;
+ghost use Rattle.free_scan.specs.steps.Scanning as spec;
 
 use crate::free_form::carried::Carried;
 use crate::free_form::firsts::Firsts;
@@ -58,7 +59,7 @@ fn read_all<L>(
     edition: Edition,
     steps: &mut Steps<L>,
 ) -> Result<Reader, NoMemory>
-    requires short { length text.now ≤ 4194304 }
+    requires short { length text.now ≤ most_file_bytes }
     requires room { steps.old + length text.now < 2 ^ 64 }
     ensures row { IfOk result (λ reader. reader.scanner ≡ spec.taken_all (spec.begun edition) (row_of text.now)) }
     ensures code { IfOk result (λ reader. least reader.code (end_breaches reader.before) ≡ least None (breaches_from edition None (code_lines text.now))) }
@@ -103,7 +104,7 @@ fn read_text<L>(
     edition: Edition,
     steps: &mut Steps<L>,
 ) -> Result<(Tokens, Firsts), NoMemory>
-    requires short { length text.now ≤ 4194304 }
+    requires short { length text.now ≤ most_file_bytes }
     requires room { steps.old + length text.now < 2 ^ 64 }
     ensures tokens { IfOk result (λ read. read.0 ≡ tokens_of text.now) }
     ensures firsts { IfOk result (λ read. IsFirstOf read.1 (breaches_of edition text.now)) }
@@ -165,7 +166,7 @@ pub fn scan<L>(
     edition: Edition,
     steps: &mut Steps<L>,
 ) -> Result<Tokens, ScanFault>
-    requires short { length text.now ≤ 4194304 }
+    requires short { length text.now ≤ most_file_bytes }
     requires room { steps.old + length text.now < 2 ^ 64 }
     ensures tokens { IfOk result (λ tokens. (breaches_of edition text.now ≡ []) × (tokens ≡ tokens_of text.now)) }
     ensures few { IfOk result (λ tokens. length tokens.statements < 2 ^ 32) }

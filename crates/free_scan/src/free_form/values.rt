@@ -1,30 +1,28 @@
 //! What tokens stand for (Fortran 90, 3.1, 4.3).
 
 ghost use Rattle.std.specs.Prelude.{◌≡◌, nat_lt, IfOk};
+ghost use Rattle.ftn_base.specs.Limits.{greatest_integer};
 ghost use Rattle.ftn_tree.specs.Breaks as breaks;
 ghost use Rattle.ftn_tree.specs.Reading as reading;
 
 use crate::free_form::line::begins_with;
 use crate::free_form::pieces::after;
-use ftn_base::{NoMemory, ShortBytes};
+use ftn_base::{GREATEST_INTEGER, NoMemory, ShortBytes};
 use ftn_tree::TokenKind;
 use std::alloc::Global;
-
-/// The greatest whole number (this project's own).
-const GREATEST: u64 = 2147483647;
 
 /// A number beyond the greatest one, for which all greater ones stand.
 const BEYOND: u64 = 4294967296;
 
 /// Whether the digits mean a number beyond the greatest one.
 pub(crate) fn is_too_big(digits: &[u8]) -> bool
-    ensures { result ≡ nat_lt breaks.greatest (breaks.number_of digits.now) }
+    ensures { result ≡ nat_lt greatest_integer (breaks.number_of digits.now) }
 {
     let mut number: u64 = 0;
     for digit in digits {
         number = (number * 10 + u64::from(digit.saturating_sub(48))).min(BEYOND);
     }
-    number > GREATEST
+    number > u64::from(GREATEST_INTEGER)
 }
 
 /// What a constant stands for, given its bytes after the opening quote: a doubled quote stands for one (4.3.2.1).

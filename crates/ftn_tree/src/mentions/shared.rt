@@ -4,6 +4,7 @@ ghost use Rattle.std.specs.Prelude.{◌≡◌, ◌++◌, ◌∷◌, [], IfOk, On
 ghost use Rattle.ftn_tree.specs.PartMentions as spec;
 ghost use Rattle.ftn_tree.specs.declared.mention.Role.TheVariants as role;
 
+use crate::expr::Expr;
 use crate::mention::{Mention, Role};
 use crate::mentions::extents::push_if_bounds;
 use crate::mentions::naming::{push_if_args, push_mention, push_name};
@@ -95,6 +96,16 @@ pub(crate) fn push_groups(
     Ok(())
 }
 
+fn subscript_roles(alloc: Global, subscripts: &Option<Items<Expr>>) -> Result<Items<Role>, NoMemory>
+    ensures { IfOk result (λ also. also ≡ spec.where_written role.Parenthesised subscripts.now) }
+{
+    let mut also = Items::new(alloc);
+    if subscripts.is_some() {
+        also.push(Role::Parenthesised)?;
+    }
+    Ok(also)
+}
+
 fn push_designator(
     alloc: Global,
     designator: &Designator,
@@ -103,7 +114,8 @@ fn push_designator(
 ) -> Result<(), NoMemory>
     ensures { OnOk result (found.new.items ≡ found.old.items ++ spec.in_designator role designator.now) }
 {
-    push_name(alloc, designator.name, role, found)?;
+    let also = subscript_roles(alloc, &designator.subscripts)?;
+    push_mention(designator.name, role, also, found)?;
     push_if_args(alloc, &designator.subscripts, found)
 }
 

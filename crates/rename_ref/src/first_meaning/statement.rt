@@ -2,7 +2,7 @@
 
 ghost use Rattle.std.specs.Prelude.{◌≡◌, IfOk};
 ghost use Rattle.rename_ref.specs.Meaning as meaning;
-ghost use Rattle.rename_ref.specs.MeaningSteps.{Halts};
+ghost use Rattle.rename_ref.specs.steps.MeaningSteps.{Halts};
 
 use crate::first_meaning::expression::{step, value};
 use crate::first_meaning::halt::Halt;

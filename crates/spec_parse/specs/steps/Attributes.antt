@@ -18,9 +18,9 @@ use Rattle.ftn_tree.specs.declared.parts.NamedConstant.{NamedConstant}
 use Rattle.ftn_tree.specs.declared.parts.SaveItem.{SaveItem}
 use Rattle.ftn_tree.specs.declared.parts.SaveItem.TheVariants as saved
 use Rattle.ftn_tree.specs.declared.lexeme.Lexeme.TheVariants as lexeme
-use Rattle.expr_parse.specs.Input.{Input, Reader, ◌>>◌, eat_word, expect, expect_word, sees_word, name}
-use Rattle.expr_parse.specs.Combinators.{◌<$>◌, ◌⊗◌, separated}
-use Rattle.expr_parse.specs.Reading.{expression}
+use Rattle.expr_parse.specs.steps.Input.{Input, Reader, ◌>>◌, eat_word, expect, expect_word, sees_word, name}
+use Rattle.expr_parse.specs.steps.Combinators.{◌<$>◌, ◌⊗◌, separated}
+use Rattle.expr_parse.specs.steps.Reading.{expression}
 use Rattle.spec_parse.specs.steps.Choices.{choose, choose_by, choose_by_word, numbered, closed_by, enclosed}
 use Rattle.spec_parse.specs.steps.Lists.{after_colons, items_or_none}
 use Rattle.spec_parse.specs.steps.Bounds.{bounds}

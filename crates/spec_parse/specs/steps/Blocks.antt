@@ -11,9 +11,9 @@ use Rattle.ftn_tree.specs.declared.parts.CommonMember.{CommonMember}
 use Rattle.ftn_tree.specs.declared.parts.Designator.{Designator}
 use Rattle.ftn_tree.specs.declared.lexeme.Lexeme.{Lexeme}
 use Rattle.ftn_tree.specs.declared.lexeme.Lexeme.TheVariants as lexeme
-use Rattle.expr_parse.specs.Input.{Input, Reader, ◌>>=◌, ◌>>◌, pure, refuse, eat, expect, expect_word, sees, peek, peek_second, is_done, name}
-use Rattle.expr_parse.specs.Combinators.{◌<$>◌, ◌⊗◌, option_if, separated}
-use Rattle.expr_parse.specs.Reading.{expression}
+use Rattle.expr_parse.specs.steps.Input.{Input, Reader, ◌>>=◌, ◌>>◌, pure, refuse, eat, expect, expect_word, sees, peek, peek_second, is_done, name}
+use Rattle.expr_parse.specs.steps.Combinators.{◌<$>◌, ◌⊗◌, option_if, separated}
+use Rattle.expr_parse.specs.steps.Reading.{expression}
 use Rattle.spec_parse.specs.steps.Choices.{choose, choose_by, checked, closed_by, enclosed}
 use Rattle.spec_parse.specs.steps.Bounds.{maybe_bounds}
 

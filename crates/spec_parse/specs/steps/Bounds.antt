@@ -4,9 +4,9 @@ use Rattle.ftn_tree.specs.declared.expr.Expr.{Expr}
 use Rattle.ftn_tree.specs.declared.parts.BoundPair.{BoundPair}
 use Rattle.ftn_tree.specs.declared.lexeme.Lexeme.TheVariants as lexeme
 use Rattle.ftn_tree.specs.SpecificationForms.{are_dimensions}
-use Rattle.expr_parse.specs.Input.{Reader, ◌>>◌, expect}
-use Rattle.expr_parse.specs.Combinators.{◌<$>◌, ◌⊗◌, option_if, separated}
-use Rattle.expr_parse.specs.Reading.{expression}
+use Rattle.expr_parse.specs.steps.Input.{Reader, ◌>>◌, expect}
+use Rattle.expr_parse.specs.steps.Combinators.{◌<$>◌, ◌⊗◌, option_if, separated}
+use Rattle.expr_parse.specs.steps.Reading.{expression}
 use Rattle.spec_parse.specs.steps.Choices.{choose_by, checked, enclosed}
 
 abbrev pub pair : Option Expr → Option Expr → BoundPair

@@ -2,8 +2,8 @@
 use Rattle.std.specs.Prelude.{ℕ, Bool, if◌then◌else◌, List, Option, Some, None}
 use Rattle.ftn_tree.specs.declared.lexeme.Lexeme.{Lexeme}
 use Rattle.ftn_tree.specs.declared.lexeme.Lexeme.TheVariants as lexeme
-use Rattle.expr_parse.specs.Input.{Input, Reader, ◌>>=◌, ◌>>◌, pure, refuse, expect, expect_word, sees, sees_word}
-use Rattle.expr_parse.specs.Combinators.{◌<$>◌}
+use Rattle.expr_parse.specs.steps.Input.{Input, Reader, ◌>>=◌, ◌>>◌, pure, refuse, expect, expect_word, sees, sees_word}
+use Rattle.expr_parse.specs.steps.Combinators.{◌<$>◌}
 
 -- the one where that holds, and else the other
 abbrev pub choose : {A : Type 0} → (Input → Bool) → Reader A → Reader A → Reader A

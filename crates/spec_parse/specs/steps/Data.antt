@@ -16,9 +16,9 @@ use Rattle.ftn_tree.specs.declared.parts.DataValue.{DataValue}
 use Rattle.ftn_tree.specs.declared.parts.DataGroup.{DataGroup}
 use Rattle.ftn_tree.specs.declared.lexeme.Lexeme.{Lexeme}
 use Rattle.ftn_tree.specs.declared.lexeme.Lexeme.TheVariants as lexeme
-use Rattle.expr_parse.specs.Input.{Input, Reader, ◌>>=◌, ◌>>◌, eat, expect, expect_word, sees, peek_second, is_done, name}
-use Rattle.expr_parse.specs.Combinators.{◌<$>◌, ◌⊗◌, separated}
-use Rattle.expr_parse.specs.Reading.{constant}
+use Rattle.expr_parse.specs.steps.Input.{Input, Reader, ◌>>=◌, ◌>>◌, eat, expect, expect_word, sees, peek_second, is_done, name}
+use Rattle.expr_parse.specs.steps.Combinators.{◌<$>◌, ◌⊗◌, separated}
+use Rattle.expr_parse.specs.steps.Reading.{constant}
 use Rattle.spec_parse.specs.steps.Blocks.{designator}
 use Rattle.spec_parse.specs.steps.Choices.{choose, choose_by, picked, closed_by}
 use Rattle.spec_parse.specs.steps.Implicits.{whole_number}

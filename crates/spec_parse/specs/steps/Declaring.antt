@@ -10,9 +10,9 @@ use Rattle.ftn_tree.specs.declared.parts.CharLength.{CharLength}
 use Rattle.ftn_tree.specs.declared.parts.EntityDecl.{EntityDecl}
 use Rattle.ftn_tree.specs.declared.lexeme.Lexeme.TheVariants as lexeme
 use Rattle.ftn_tree.specs.SpecificationForms.{is_declaration}
-use Rattle.expr_parse.specs.Input.{Reader, ◌>>◌, expect, name}
-use Rattle.expr_parse.specs.Combinators.{◌<$>◌, ◌⊗◌, option_if, each_after_comma}
-use Rattle.expr_parse.specs.Reading.{expression}
+use Rattle.expr_parse.specs.steps.Input.{Reader, ◌>>◌, expect, name}
+use Rattle.expr_parse.specs.steps.Combinators.{◌<$>◌, ◌⊗◌, option_if, each_after_comma}
+use Rattle.expr_parse.specs.steps.Reading.{expression}
 use Rattle.spec_parse.specs.steps.Choices.{checked}
 use Rattle.spec_parse.specs.steps.Types.{char_length}
 use Rattle.spec_parse.specs.steps.Bounds.{maybe_bounds}
@@ -42,6 +42,10 @@ may_follow ty parts = is_declaration ty parts.0 parts.1.0 parts.1.1
 abbrev pub declaration_of : TypeSpec → Parts → Form
 declaration_of ty parts = form.Declare ty parts.0 parts.1.0 parts.1.1
 
+-- the attributes, and the entities with whether `::` stands before them
+abbrev pub declared : Reader Parts
+declared = each_after_comma attribute ⊗ after_colons entity
+
 -- the rest of a declaration of that type
 unfoldable pub declare_from : TypeSpec → Reader Form
-declare_from ty = declaration_of ty <$> checked (may_follow ty) (each_after_comma attribute ⊗ after_colons entity)
+declare_from ty = declaration_of ty <$> checked (may_follow ty) declared

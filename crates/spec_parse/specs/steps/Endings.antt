@@ -10,8 +10,8 @@ use Rattle.ftn_tree.specs.declared.parts.EndWord.{EndWord}
 use Rattle.ftn_tree.specs.declared.parts.EndWord.TheVariants.{Program, Module, BlockData, Subroutine, Function, Interface, If, Do, Select}
 use Rattle.ftn_tree.specs.declared.parts.Ending.{Ending}
 use Rattle.ftn_tree.specs.Lexemes.{is_text}
-use Rattle.expr_parse.specs.Input.{Reader, ◌>>◌, pure, refuse, expect, sees_word, expect_word, name}
-use Rattle.expr_parse.specs.Combinators.{◌<$>◌, ◌⊗◌, option_if}
+use Rattle.expr_parse.specs.steps.Input.{Reader, ◌>>◌, pure, refuse, expect, sees_word, expect_word, name}
+use Rattle.expr_parse.specs.steps.Combinators.{◌<$>◌, ◌⊗◌, option_if}
 use Rattle.ftn_tree.specs.UnitForms.{is_parted}
 use Rattle.spec_parse.specs.steps.Choices.{trailed}
 

@@ -20,9 +20,9 @@ use Rattle.ftn_tree.specs.declared.parts.LetterGroup.{LetterGroup}
 use Rattle.ftn_tree.specs.declared.parts.LetterRange.{LetterRange}
 use Rattle.ftn_tree.specs.Layers.{ExprLayer}
 use Rattle.ftn_tree.specs.Lexemes.{lexeme_of, is_word, same_lexeme}
-use Rattle.expr_parse.specs.Input.{Reader, ◌>>=◌, ◌>>◌, pure, refuse, expect, expect_word, sees, sees_word}
-use Rattle.expr_parse.specs.Combinators.{◌<$>◌, ◌⊗◌, option_if, separated}
-use Rattle.expr_parse.specs.Reading.{constant}
+use Rattle.expr_parse.specs.steps.Input.{Reader, ◌>>=◌, ◌>>◌, pure, refuse, expect, expect_word, sees, sees_word}
+use Rattle.expr_parse.specs.steps.Combinators.{◌<$>◌, ◌⊗◌, option_if, separated}
+use Rattle.expr_parse.specs.steps.Reading.{constant}
 use Rattle.spec_parse.specs.steps.Names.{between_parens}
 use Rattle.spec_parse.specs.steps.Choices.{checked}
 

@@ -1,8 +1,8 @@
 -- How lists with marks before them are read. It serves the proof of the code.
 use Rattle.std.specs.Prelude.{Bool, false, List, [], Option, Some, None}
 use Rattle.ftn_tree.specs.declared.lexeme.Lexeme.TheVariants as lexeme
-use Rattle.expr_parse.specs.Input.{Reader, eat}
-use Rattle.expr_parse.specs.Combinators.{◌<$>◌, ◌⊗◌, separated, option_unless_done}
+use Rattle.expr_parse.specs.steps.Input.{Reader, eat}
+use Rattle.expr_parse.specs.steps.Combinators.{◌<$>◌, ◌⊗◌, separated, option_unless_done}
 
 -- `[::] item, ..`
 abbrev pub after_colons : {A : Type 0} → Reader A → Reader (Bool × List A)

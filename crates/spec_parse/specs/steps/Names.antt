@@ -1,11 +1,8 @@
 -- How lists of names are read. It serves the proofs of the readers.
 use Rattle.std.specs.Prelude.{ℕ, List}
 use Rattle.ftn_tree.specs.declared.lexeme.Lexeme.TheVariants as lexeme
-use Rattle.expr_parse.specs.Input.{Reader, ◌>>=◌, ◌>>◌, pure, expect, name}
-use Rattle.expr_parse.specs.Combinators.{separated, list_in_parens}
-
-unfoldable pub names : Reader (List ℕ)
-names = separated name
+use Rattle.expr_parse.specs.steps.Input.{Reader, ◌>>=◌, ◌>>◌, pure, expect, name}
+use Rattle.expr_parse.specs.steps.Combinators.{list_in_parens}
 
 unfoldable pub dummies : Reader (List ℕ)
 dummies = list_in_parens name

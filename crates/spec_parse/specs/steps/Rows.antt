@@ -6,8 +6,8 @@ use Rattle.ftn_tree.specs.declared.token.TokenKind.TheVariants as kinds
 use Rattle.ftn_tree.specs.declared.form.Form.{Form}
 use Rattle.ftn_tree.specs.declared.lexeme.Lexeme.TheVariants as lexeme
 use Rattle.ftn_tree.specs.Lexemes.{is_text, is_word, lexeme_of, same_lexeme}
-use Rattle.expr_parse.specs.Input.{Reader, ◌>>=◌, refuse}
-use Rattle.expr_parse.specs.Combinators.{to_the_end}
+use Rattle.expr_parse.specs.steps.Input.{Reader, ◌>>=◌, refuse}
+use Rattle.expr_parse.specs.steps.Combinators.{to_the_end}
 use Rattle.spec_parse.specs.declared.rows.Row.{Row}
 use Rattle.spec_parse.specs.declared.rows.Row.TheVariants as row
 use Rattle.spec_parse.specs.steps.Units.{block_data, program, module_row, subroutine, function, contains, interface}

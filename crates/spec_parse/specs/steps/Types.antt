@@ -13,9 +13,9 @@ use Rattle.ftn_tree.specs.declared.parts.LengthValue.{LengthValue}
 use Rattle.ftn_tree.specs.declared.parts.LengthValue.TheVariants.{Assumed, Given}
 use Rattle.ftn_tree.specs.declared.lexeme.Lexeme.{Lexeme}
 use Rattle.ftn_tree.specs.declared.lexeme.Lexeme.TheVariants as lexeme
-use Rattle.expr_parse.specs.Input.{Input, Reader, ◌>>◌, expect, expect_word, sees_word, peek_second}
-use Rattle.expr_parse.specs.Combinators.{◌<$>◌, option_if}
-use Rattle.expr_parse.specs.Reading.{expression}
+use Rattle.expr_parse.specs.steps.Input.{Input, Reader, ◌>>◌, expect, expect_word, sees_word, peek_second}
+use Rattle.expr_parse.specs.steps.Combinators.{◌<$>◌, option_if}
+use Rattle.expr_parse.specs.steps.Reading.{expression}
 use Rattle.spec_parse.specs.steps.Choices.{choose, choose_by, choose_by_word, picked, enclosed}
 
 abbrev pub assumed : ℕ → LengthValue

@@ -6,9 +6,9 @@ use Rattle.ftn_tree.specs.declared.form.Form.TheVariants as form
 use Rattle.ftn_tree.specs.declared.lexeme.Lexeme.TheVariants as lexeme
 use Rattle.ftn_tree.specs.declared.parts.TypeSpec.{TypeSpec}
 use Rattle.ftn_tree.specs.Lexemes.{lexeme_of, is_word, same_lexeme}
-use Rattle.expr_parse.specs.Input.{Reader, ◌>>◌, expect_word, name}
-use Rattle.expr_parse.specs.Combinators.{◌<$>◌, ◌⊗◌, option_if}
-use Rattle.spec_parse.specs.steps.Names.{names, dummies, between_parens}
+use Rattle.expr_parse.specs.steps.Input.{Reader, ◌>>◌, expect_word, name}
+use Rattle.expr_parse.specs.steps.Combinators.{◌<$>◌, ◌⊗◌, option_if, separated}
+use Rattle.spec_parse.specs.steps.Names.{dummies, between_parens}
 use Rattle.spec_parse.specs.steps.Choices.{choose_by_word}
 
 abbrev pub joined : ℕ → Bool
@@ -34,7 +34,7 @@ unfoldable pub module_unit : Reader Form
 module_unit = form.Module <$> (expect_word (codes "module") >> name)
 
 unfoldable pub module_procedure : Reader Form
-module_procedure = form.ModuleProcedure <$> (expect_word (codes "module") >> (expect_word (codes "procedure") >> names))
+module_procedure = form.ModuleProcedure <$> (expect_word (codes "module") >> (expect_word (codes "procedure") >> separated name))
 
 -- MODULE, PROCEDURE and a name
 abbrev pub names_procedures_at : List Token → Bool

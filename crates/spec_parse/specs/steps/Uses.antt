@@ -7,8 +7,8 @@ use Rattle.ftn_tree.specs.declared.lexeme.Lexeme.TheVariants as lexeme
 use Rattle.ftn_tree.specs.declared.parts.Rename.{Rename}
 use Rattle.ftn_tree.specs.declared.parts.OnlyItem.{OnlyItem}
 use Rattle.ftn_tree.specs.Lexemes.{lexeme_of, is_word, same_lexeme}
-use Rattle.expr_parse.specs.Input.{Reader, ◌>>◌, expect, expect_word, name}
-use Rattle.expr_parse.specs.Combinators.{◌<$>◌, ◌⊗◌, option_if, option_unless_done, separated, each_after_comma}
+use Rattle.expr_parse.specs.steps.Input.{Reader, ◌>>◌, expect, expect_word, name}
+use Rattle.expr_parse.specs.steps.Combinators.{◌<$>◌, ◌⊗◌, option_if, option_unless_done, separated, each_after_comma}
 
 unfoldable pub rename : Reader Rename
 rename = (λ parts. record { local = parts.0; source = parts.1 }) <$> (name ⊗ (expect lexeme.Arrow >> name))

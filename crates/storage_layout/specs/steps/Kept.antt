@@ -1,5 +1,6 @@
 -- What the code keeps of objects, members and ties, for the proofs of the code.
 use Rattle.std.specs.Prelude.{ℕ, ◌≤◌, ◌<◌, ◌^◌, ◌≡◌, ◌≢◌, List, [], length, sum, take, drop, slice_index, All, AllPairs}
+use Rattle.ftn_base.specs.Limits.{most_units_of_all}
 use Rattle.ftn_base.specs.declared.entity.Tie.{Tie}
 use Rattle.ftn_base.specs.Storage.{IsWithin}
 use Rattle.ftn_base.specs.Storage.{IsContradicted}
@@ -16,7 +17,7 @@ pub record AreMembers (sizes : List ℕ) (members : List Member) : Type 0 where
   pub there : All (λ member. member.object < length sizes) members
   pub once : AllPairs (λ earlier later. earlier.object ≢ later.object) members
   pub filled : (v : ℕ) → v < length sizes → 1 ≤ slice_index sizes v
-  pub small : sum sizes ≤ 2 ^ 24
+  pub small : sum sizes ≤ most_units_of_all
 
 -- blocks are numbered, and each member is tied to its block
 pub record AreTied (sizes : List ℕ) (members : List Member) (names block_sizes : List ℕ) (ties : List Tie) : Type 0 where

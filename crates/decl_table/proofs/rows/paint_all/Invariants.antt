@@ -1,5 +1,5 @@
 use Rattle.std.proofs.Common.{◌≡◌, ◌++◌, drop}
-use Rattle.decl_table.specs.Rows.{rows_of, around_of, rows_after, around_after}
+use Rattle.decl_table.specs.steps.Rows.{rows_of, around_of, rows_after, around_after}
 use Rattle.decl_table.proofs.rows.paint_all.Given as goal
 
 abbrev pub invariant-loop-extent : goal.invariant-loop-extent

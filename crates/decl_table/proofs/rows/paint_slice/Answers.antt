@@ -1,4 +1,4 @@
-use Rattle.std.proofs.Common.{◌∙◌, sym, arith}
+use Rattle.std.proofs.Common.{◌∙◌, sym}
 use Rattle.decl_table.proofs.Painting.{paint_one, paint_past, paint_done}
 use Rattle.decl_table.proofs.rows.paint_slice.Goals as goal
 

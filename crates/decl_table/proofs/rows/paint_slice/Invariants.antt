@@ -1,5 +1,5 @@
 use Rattle.std.proofs.Common.{◌≡◌, ◌-◌, length}
-use Rattle.decl_table.specs.Rows.{painted}
+use Rattle.decl_table.specs.steps.Rows.{painted}
 use Rattle.decl_table.proofs.rows.paint_slice.Given as goal
 
 abbrev pub invariant-loop-at : goal.invariant-loop-at

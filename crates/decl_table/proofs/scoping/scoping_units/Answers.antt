@@ -1,7 +1,6 @@
-use Rattle.std.proofs.Common.{◌≡◌, ◌<◌, ◌^◌, length, map, sym, ap, ◌∙◌, subst}
-use Rattle.ftn_tree.specs.Extents.{extents, scoping, is_body}
-use Rattle.decl_table.specs.Located.{IsScoping}
-use Rattle.decl_table.specs.Rows.{rows_of, around_of, units_of}
+use Rattle.std.proofs.Common.{◌<◌, ◌^◌, length, map, sym, ap, ◌∙◌, subst}
+use Rattle.ftn_tree.specs.Extents.{is_body}
+use Rattle.decl_table.specs.steps.Rows.{rows_of, around_of, units_of}
 use Rattle.decl_table.proofs.Arounds.{extents_few, units_few, bodies_said, hosts_are}
 use Rattle.decl_table.proofs.scoping.scoping_units.Goals as goal
 

@@ -1,6 +1,6 @@
 use Rattle.std.proofs.Common.{◌≡◌, ◌++◌, map, drop}
 use Rattle.ftn_tree.specs.Extents.{is_body}
-use Rattle.decl_table.specs.Rows.{units_of}
+use Rattle.decl_table.specs.steps.Rows.{units_of}
 use Rattle.decl_table.proofs.scoping.units_among.Given as goal
 
 abbrev pub invariant-loop-extent : goal.invariant-loop-extent

@@ -1,7 +1,7 @@
 use Rattle.std.proofs.Common.{rules, arith}
 use Rattle.std.proofs.lemmas.Grind.{common_steps}
-use Rattle.expr_parse.specs.Combinators.{separated_from}
-use Rattle.exec_parse.specs.Constructs.{case_range}
+use Rattle.expr_parse.specs.steps.Combinators.{separated_from}
+use Rattle.exec_parse.specs.steps.Constructs.{case_range}
 use Rattle.expr_parse.proofs.Turns.{one_more, no_more}
 use Rattle.exec_parse.proofs.cases.read_range_list.Goals as goal
 

@@ -1,6 +1,6 @@
 use Rattle.std.proofs.Common.{◌≡◌, ◌-◌}
-use Rattle.expr_parse.specs.Combinators.{separated, separated_from}
-use Rattle.exec_parse.specs.Constructs.{case_range}
+use Rattle.expr_parse.specs.steps.Combinators.{separated, separated_from}
+use Rattle.exec_parse.specs.steps.Constructs.{case_range}
 use Rattle.exec_parse.proofs.cases.read_range_list.Given as goal
 
 abbrev pub invariant-loop-turn : goal.invariant-loop-turn

@@ -1,8 +1,8 @@
 use Rattle.std.proofs.Common.{rules, arith}
 use Rattle.std.proofs.lemmas.Grind.{common_steps}
-use Rattle.expr_parse.specs.Combinators.{each_after_comma_from}
-use Rattle.expr_parse.specs.Reading.{expression}
-use Rattle.exec_parse.specs.Lists.{items_after_star}
+use Rattle.expr_parse.specs.steps.Combinators.{each_after_comma_from}
+use Rattle.expr_parse.specs.steps.Reading.{expression}
+use Rattle.exec_parse.specs.steps.Lists.{items_after_star}
 use Rattle.expr_parse.proofs.Turns.{one_more, no_more}
 use Rattle.exec_parse.proofs.lists.read_items_after_star.Goals as goal
 

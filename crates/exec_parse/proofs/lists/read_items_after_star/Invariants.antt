@@ -1,6 +1,6 @@
 use Rattle.std.proofs.Common.{◌≡◌, ◌-◌}
-use Rattle.expr_parse.specs.Combinators.{each_after_comma, each_after_comma_from}
-use Rattle.expr_parse.specs.Reading.{expression}
+use Rattle.expr_parse.specs.steps.Combinators.{each_after_comma, each_after_comma_from}
+use Rattle.expr_parse.specs.steps.Reading.{expression}
 use Rattle.exec_parse.proofs.lists.read_items_after_star.Given as goal
 
 abbrev pub invariant-loop-turn : goal.invariant-loop-turn

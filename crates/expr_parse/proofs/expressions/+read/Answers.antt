@@ -1,5 +1,5 @@
 use Rattle.std.proofs.Common.{◌≡◌, ap, arith}
-use Rattle.expr_parse.specs.Reading.{read}
+use Rattle.expr_parse.specs.steps.Reading.{read}
 use Rattle.expr_parse.proofs.Turns.{deeper}
 use Rattle.expr_parse.proofs.expressions.+read.Goals as goal
 

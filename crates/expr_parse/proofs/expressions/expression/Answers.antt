@@ -1,5 +1,5 @@
-use Rattle.expr_parse.specs.Input.{tokens_in}
-use Rattle.expr_parse.specs.Reading.{whole_expression}
+use Rattle.expr_parse.specs.steps.Input.{tokens_in}
+use Rattle.expr_parse.specs.steps.Reading.{whole_expression}
 use Rattle.expr_parse.proofs.Laws.{expressions}
 use Rattle.expr_parse.proofs.Judging.{answer_deep, answer_read, answer_misfit}
 use Rattle.expr_parse.proofs.expressions.expression.Goals as goal

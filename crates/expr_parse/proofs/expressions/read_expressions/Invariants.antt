@@ -1,6 +1,6 @@
 use Rattle.std.proofs.Common.{◌≡◌, ◌-◌}
-use Rattle.expr_parse.specs.Combinators.{separated, separated_from}
-use Rattle.expr_parse.specs.Reading.{expression}
+use Rattle.expr_parse.specs.steps.Combinators.{separated, separated_from}
+use Rattle.expr_parse.specs.steps.Reading.{expression}
 use Rattle.expr_parse.proofs.expressions.read_expressions.Given as goal
 
 abbrev pub invariant-loop-turn : goal.invariant-loop-turn

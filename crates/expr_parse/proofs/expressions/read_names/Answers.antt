@@ -1,7 +1,7 @@
 use Rattle.std.proofs.Common.{rules, arith}
 use Rattle.std.proofs.lemmas.Grind.{common_steps}
-use Rattle.expr_parse.specs.Combinators.{separated_from}
-use Rattle.expr_parse.specs.Input.{name}
+use Rattle.expr_parse.specs.steps.Combinators.{separated_from}
+use Rattle.expr_parse.specs.steps.Input.{name}
 use Rattle.expr_parse.proofs.Turns.{one_more, no_more}
 use Rattle.expr_parse.proofs.expressions.read_names.Goals as goal
 

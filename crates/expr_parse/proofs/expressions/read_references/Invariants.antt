@@ -1,6 +1,6 @@
 use Rattle.std.proofs.Common.{◌≡◌, ◌-◌}
-use Rattle.expr_parse.specs.Combinators.{separated, separated_from}
-use Rattle.expr_parse.specs.Reading.{reference}
+use Rattle.expr_parse.specs.steps.Combinators.{separated, separated_from}
+use Rattle.expr_parse.specs.steps.Reading.{reference}
 use Rattle.expr_parse.proofs.expressions.read_references.Given as goal
 
 abbrev pub invariant-loop-turn : goal.invariant-loop-turn

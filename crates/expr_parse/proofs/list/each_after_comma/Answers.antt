@@ -1,6 +1,6 @@
 use Rattle.std.proofs.Common.{rules, arith}
 use Rattle.std.proofs.lemmas.Grind.{common_steps}
-use Rattle.expr_parse.specs.Combinators.{each_after_comma_from}
+use Rattle.expr_parse.specs.steps.Combinators.{each_after_comma_from}
 use Rattle.expr_parse.proofs.Turns.{one_more, no_more}
 use Rattle.expr_parse.proofs.list.each_after_comma.Goals as goal
 

@@ -1,7 +1,7 @@
 use Rattle.std.proofs.Common.{◌≡◌, ◌-◌}
-use Rattle.expr_parse.specs.Input.{Reader}
-use Rattle.expr_parse.specs.Callable.{Reads}
-use Rattle.expr_parse.specs.Combinators as spec
+use Rattle.expr_parse.specs.steps.Input.{Reader}
+use Rattle.expr_parse.specs.steps.Callable.{Reads}
+use Rattle.expr_parse.specs.steps.Combinators as spec
 use Rattle.expr_parse.proofs.list.separated.Given as goal
 
 abbrev pub invariant-turns : goal.invariant-turns

@@ -1,5 +1,5 @@
 use Rattle.std.proofs.Common.{◌≡◌, ◌≤◌, drop}
-use Rattle.expr_parse.specs.Faults.{is_deep, deep_from}
+use Rattle.expr_parse.specs.steps.Faults.{is_deep, deep_from}
 use Rattle.expr_parse.proofs.misfits.counts_too_deep.Given as goal
 
 abbrev pub invariant-loop-here : goal.invariant-loop-here

@@ -1,5 +1,5 @@
 use Rattle.std.proofs.Common.{◌≡◌, length}
-use Rattle.expr_parse.specs.Operators.{chained}
+use Rattle.expr_parse.specs.steps.Operators.{chained}
 use Rattle.expr_parse.proofs.operators.chained.Given as goal
 
 abbrev pub decreases-loop-left : goal.decreases-loop-left

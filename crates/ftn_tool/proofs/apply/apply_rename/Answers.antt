@@ -10,7 +10,7 @@ returns-in-Ok-due_reply g c =
 
 pub returns-in-Err-Past : goal.returns-in-Err-Past
 returns-in-Err-Past g c =
-    let line_is : c.line.result.now ≡ limit_line c.in-Err-Past.limit = cc (c.line.ensures, c.in-Err-Past.limit-is, c.in-Err-Past.field-0-is) in
+    let line_is : c.limit_line.result.now ≡ limit_line c.in-Err-Past.limit = cc (c.limit_line.ensures, c.in-Err-Past.limit-is) in
     rw c.say.ensures.status (
     applies_limit c.args.order.now _ c.in-Err-Past.limit (rw c.in-Err-Past.field-0-is at c.in-Err-Past.ensures.past) c.project_files.ensures.same
-    c.line.result.now line_is (record { front = c.say.ensures.front; whole = λ holds. c.say.ensures.whole holds.0 holds.1 }))
+    c.limit_line.result.now line_is (record { front = c.say.ensures.front; whole = λ holds. c.say.ensures.whole holds.0 holds.1 }))

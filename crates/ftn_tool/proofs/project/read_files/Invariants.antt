@@ -2,8 +2,9 @@ use Rattle.std.proofs.Common.{◌≡◌, ◌≤◌, ◌+◌, ◌++◌, List, len
 use Rattle.std.specs.Prelude.{IfSome}
 use Rattle.std.specs.List.{filter}
 use Rattle.ftn_base.specs.Files.{File, is_source}
-use Rattle.ftn_tool.specs.Limits.{most_project_bytes, past_bytes}
-use Rattle.ftn_tool.specs.Projects.{fronts}
+use Rattle.ftn_base.specs.Limits.{most_project_bytes}
+use Rattle.ftn_tree.specs.ProjectLimits.{past_bytes}
+use Rattle.ftn_tool.specs.steps.Fronts.{fronts}
 use Rattle.ftn_tool.proofs.project.read_files.Given as goal
 
 abbrev pub invariant-names : goal.invariant-names

@@ -1,6 +1,6 @@
 use Rattle.std.proofs.Common.{◌≡◌, true, arith}
 use Rattle.ftn_base.specs.Files.{is_source}
-use Rattle.ftn_tool.specs.Limits.{most_file_bytes}
+use Rattle.ftn_base.specs.Limits.{most_file_bytes}
 use Rattle.ftn_tool.proofs.ProjectFiles.{told_front}
 use Rattle.ftn_tool.proofs.project.source_text.Goals as goal
 

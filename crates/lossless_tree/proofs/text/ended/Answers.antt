@@ -1,6 +1,6 @@
 use Rattle.std.proofs.Common.{rules, of_calls, sym}
 use Rattle.std.proofs.lemmas.Fn.{always_returns_same}
-use Rattle.lossless_tree.specs.Edges.{has_ended}
+use Rattle.lossless_tree.specs.steps.Edges.{has_ended}
 use Rattle.lossless_tree.proofs.Holding.{point_is}
 use Rattle.lossless_tree.proofs.text.ended.Goals as goal
 

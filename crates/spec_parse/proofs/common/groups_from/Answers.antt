@@ -1,7 +1,7 @@
 use Rattle.std.proofs.Common.{rules, arith}
 use Rattle.std.proofs.lemmas.Grind.{common_steps}
 use Rattle.spec_parse.specs.steps.Blocks.{groups_from}
-use Rattle.spec_parse.proofs.Turns.{one_more, no_more}
+use Rattle.expr_parse.proofs.Turns.{one_more, no_more}
 use Rattle.spec_parse.proofs.common.groups_from.Goals as goal
 
 pub returns-in_err-later_group : goal.returns-in_err-later_group

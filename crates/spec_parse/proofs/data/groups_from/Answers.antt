@@ -1,7 +1,7 @@
 use Rattle.std.proofs.Common.{rules, arith}
 use Rattle.std.proofs.lemmas.Grind.{common_steps}
 use Rattle.spec_parse.specs.steps.Data.{each_from, later_group}
-use Rattle.spec_parse.proofs.Turns.{one_more, no_more}
+use Rattle.expr_parse.proofs.Turns.{one_more, no_more}
 use Rattle.spec_parse.proofs.data.groups_from.Goals as goal
 
 pub returns-in_err-read_later_group : goal.returns-in_err-read_later_group

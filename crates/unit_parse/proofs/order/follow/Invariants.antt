@@ -1,5 +1,5 @@
 use Rattle.std.proofs.Common.{length, ◌-◌, ◌≡◌, drop}
-use Rattle.unit_parse.specs.Following as spec
+use Rattle.unit_parse.specs.steps.Following as spec
 use Rattle.unit_parse.proofs.order.follow.Given as goal
 
 -- what is left of the sections decides as all of them do

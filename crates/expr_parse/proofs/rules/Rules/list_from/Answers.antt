@@ -1,8 +1,8 @@
 use Rattle.std.proofs.Common.{rules, arith}
 use Rattle.std.proofs.lemmas.Grind.{common_steps}
-use Rattle.expr_parse.specs.Combinators.{each_after_comma_from}
+use Rattle.expr_parse.specs.steps.Combinators.{each_after_comma_from}
 use Rattle.ftn_tree.specs.Levels.{loosest}
-use Rattle.expr_parse.specs.Reading.{read}
+use Rattle.expr_parse.specs.steps.Reading.{read}
 use Rattle.expr_parse.proofs.Turns.{one_more, no_more}
 use Rattle.expr_parse.proofs.rules.Rules.list_from.Goals as goal
 

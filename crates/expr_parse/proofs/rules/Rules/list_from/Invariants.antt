@@ -1,7 +1,7 @@
 use Rattle.std.proofs.Common.{◌≡◌, ◌-◌}
-use Rattle.expr_parse.specs.Combinators.{each_after_comma_from}
+use Rattle.expr_parse.specs.steps.Combinators.{each_after_comma_from}
 use Rattle.ftn_tree.specs.Levels.{loosest}
-use Rattle.expr_parse.specs.Reading.{list_from, read}
+use Rattle.expr_parse.specs.steps.Reading.{list_from, read}
 use Rattle.expr_parse.proofs.rules.Rules.list_from.Given as goal
 
 abbrev pub invariant-loop-turn : goal.invariant-loop-turn

@@ -1,6 +1,6 @@
 use Rattle.std.proofs.Common.{rules, arith}
 use Rattle.std.proofs.lemmas.Grind.{common_steps}
-use Rattle.expr_parse.specs.Reading.{climb, read}
+use Rattle.expr_parse.specs.steps.Reading.{climb, read}
 use Rattle.expr_parse.proofs.Turns.{one_more, no_more}
 use Rattle.expr_parse.proofs.rules.Rules.operators.Goals as goal
 

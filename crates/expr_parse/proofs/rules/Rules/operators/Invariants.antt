@@ -1,5 +1,5 @@
 use Rattle.std.proofs.Common.{◌≡◌, ◌-◌}
-use Rattle.expr_parse.specs.Reading.{operators, climb, read}
+use Rattle.expr_parse.specs.steps.Reading.{operators, climb, read}
 use Rattle.expr_parse.proofs.rules.Rules.operators.Given as goal
 
 abbrev pub invariant-loop-turn : goal.invariant-loop-turn

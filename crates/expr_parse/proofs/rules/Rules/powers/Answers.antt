@@ -1,6 +1,6 @@
 use Rattle.std.proofs.Common.{rules, arith}
 use Rattle.std.proofs.lemmas.Grind.{common_steps}
-use Rattle.expr_parse.specs.Reading.{powers_from, read}
+use Rattle.expr_parse.specs.steps.Reading.{powers_from, read}
 use Rattle.expr_parse.proofs.Turns.{one_more, no_more}
 use Rattle.expr_parse.proofs.rules.Rules.powers.Goals as goal
 

@@ -1,5 +1,5 @@
 use Rattle.std.proofs.Common.{◌≡◌, ◌-◌}
-use Rattle.expr_parse.specs.Reading.{powers, powers_from, read}
+use Rattle.expr_parse.specs.steps.Reading.{powers, powers_from, read}
 use Rattle.expr_parse.proofs.rules.Rules.powers.Given as goal
 
 abbrev pub invariant-loop-turn : goal.invariant-loop-turn

@@ -1,6 +1,6 @@
 use Rattle.std.proofs.Common.{◌≡◌, ◌≤◌, drop}
 use Rattle.free_scan.specs.Lines as spec
-use Rattle.free_scan.specs.PlainWalk.{plain_from}
+use Rattle.free_scan.specs.steps.PlainWalk.{plain_from}
 use Rattle.free_scan.proofs.first_form.lines.is_plain.Given as goal
 
 abbrev pub invariant-loop-byte : goal.invariant-loop-byte

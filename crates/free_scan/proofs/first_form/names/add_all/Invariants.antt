@@ -1,5 +1,5 @@
 use Rattle.std.proofs.Common.{◌++◌, drop}
-use Rattle.free_scan.specs.Fresh.{are_fresh}
+use Rattle.free_scan.specs.steps.Fresh.{are_fresh}
 use Rattle.free_scan.proofs.CleanLaws.{Gathers}
 use Rattle.free_scan.proofs.first_form.names.add_all.Given as goal
 

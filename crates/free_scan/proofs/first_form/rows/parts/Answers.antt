@@ -1,7 +1,7 @@
 use Rattle.std.proofs.Common.{rules, tests}
 use Rattle.std.proofs.lemmas.Iterator.Consumers.{map_from_collect}
 use Rattle.std.proofs.lemmas.Iterator.Splits.{YieldsList-from_slice_split}
-use Rattle.free_scan.specs.Reading as spec
+use Rattle.free_scan.specs.steps.Reading as spec
 use Rattle.free_scan.specs.Spelling.{lexeme_of}
 use Rattle.free_scan.proofs.Rows.{parts_are}
 use Rattle.free_scan.proofs.first_form.rows.parts.Goals as goal

@@ -1,5 +1,5 @@
 use Rattle.std.proofs.Common.{◌≡◌, map, drop}
-use Rattle.free_scan.specs.Reading as spec
+use Rattle.free_scan.specs.steps.Reading as spec
 use Rattle.free_scan.specs.Spelling.{lexeme_of}
 use Rattle.free_scan.proofs.Loops.{onto}
 use Rattle.free_scan.proofs.first_form.statements.read_names.Given as goal

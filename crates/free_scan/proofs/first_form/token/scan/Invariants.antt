@@ -1,6 +1,6 @@
 use Rattle.std.proofs.Common.{◌+◌, ◌-◌, ◌≤◌, length, drop}
 use Rattle.free_scan.specs.Tokens.{placed_pieces_of}
-use Rattle.free_scan.specs.Onward.{GoesOn}
+use Rattle.free_scan.specs.steps.Onward.{GoesOn}
 use Rattle.free_scan.proofs.first_form.token.scan.Given as goal
 
 abbrev pub decreases-pieces : goal.decreases-pieces

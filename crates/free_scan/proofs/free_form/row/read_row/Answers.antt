@@ -2,8 +2,8 @@ use Rattle.std.proofs.Common.{◌≡◌, ◌+◌, ◌∙◌, ◌++◌, ◌≤◌
 use Rattle.ftn_tree.specs.Breaks.{piece_breaches}
 use Rattle.ftn_tree.specs.Pieces.{front}
 use Rattle.ftn_tree.specs.Reading.{over_run, token_of}
-use Rattle.free_scan.specs.Firsts.{least}
-use Rattle.free_scan.specs.PlainText.{adjoining}
+use Rattle.free_scan.specs.steps.Firsts.{least}
+use Rattle.free_scan.specs.steps.PlainText.{adjoining}
 use Rattle.free_scan.proofs.RunSteps.{items_on, firsts_on, ends_within}
 use Rattle.free_scan.proofs.PlainTextLaws.{tokens_here, rules_here}
 use Rattle.free_scan.proofs.free_form.row.read_row.Goals as goal

@@ -1,5 +1,5 @@
 use Rattle.std.proofs.Common.{◌≡◌, drop}
-use Rattle.free_scan.specs.PlainText as spec
+use Rattle.free_scan.specs.steps.PlainText as spec
 use Rattle.free_scan.proofs.free_form.row.walked_end.Given as goal
 
 abbrev pub invariant-loop-byte : goal.invariant-loop-byte

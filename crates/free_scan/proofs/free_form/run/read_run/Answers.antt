@@ -2,7 +2,7 @@ use Rattle.std.proofs.Common.{◌≡◌, ◌+◌, ◌++◌, ◌≤◌, length, d
 use Rattle.ftn_tree.specs.Breaks.{piece_breaches}
 use Rattle.ftn_tree.specs.Pieces.{front}
 use Rattle.ftn_tree.specs.Reading.{over_run, token_of}
-use Rattle.free_scan.specs.Firsts.{least}
+use Rattle.free_scan.specs.steps.Firsts.{least}
 use Rattle.free_scan.proofs.RunSteps.{items_on, firsts_on, ends_within}
 use Rattle.free_scan.proofs.free_form.run.read_run.Goals as goal
 

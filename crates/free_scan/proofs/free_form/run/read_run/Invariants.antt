@@ -1,7 +1,7 @@
 use Rattle.std.proofs.Common.{◌≡◌, ◌-◌, ◌≤◌, ◌++◌, length, drop}
 use Rattle.ftn_tree.specs.Breaks.{piece_breaches}
 use Rattle.ftn_tree.specs.Reading.{over_run, token_of}
-use Rattle.free_scan.specs.Firsts.{least}
+use Rattle.free_scan.specs.steps.Firsts.{least}
 use Rattle.free_scan.proofs.free_form.run.read_run.Given as goal
 
 abbrev pub invariant-pieces : goal.invariant-pieces

@@ -1,7 +1,7 @@
 use Rattle.std.proofs.Common.{◌≡◌, ◌+◌, ◌-◌, ◌∷◌, ◌++◌, List, [], length, ap, sym, ◌∙◌, arith, append_assoc, length-drop}
 use Rattle.std.specs.Prelude.{map}
 use Rattle.ftn_tree.specs.Lines.{Line}
-use Rattle.free_scan.specs.LinesLeft as left
+use Rattle.free_scan.specs.steps.LinesLeft as left
 use Rattle.free_scan.proofs.ScanLaws.{within_more}
 use Rattle.free_scan.proofs.LinesLaws.{lines_on, long_step, counted_more, ticked}
 use Rattle.free_scan.proofs.free_form.tokens.read_all.Goals as goal

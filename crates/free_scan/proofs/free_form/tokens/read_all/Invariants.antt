@@ -4,9 +4,9 @@ use Rattle.std.specs.List.{flat_map}
 use Rattle.ftn_tree.specs.Breaks.{breaches_from, long_line}
 use Rattle.ftn_tree.specs.Lines.{code_lines, line_starts, lines_of}
 use Rattle.ftn_tree.specs.Logical.{row_of}
-use Rattle.free_scan.specs.Firsts.{least}
-use Rattle.free_scan.specs.LinesLeft as left
-use Rattle.free_scan.specs.Scanning as spec
+use Rattle.free_scan.specs.steps.Firsts.{least}
+use Rattle.free_scan.specs.steps.LinesLeft as left
+use Rattle.free_scan.specs.steps.Scanning as spec
 use Rattle.free_scan.proofs.free_form.tokens.read_all.Given as goal
 
 abbrev pub decreases-lines : goal.decreases-lines

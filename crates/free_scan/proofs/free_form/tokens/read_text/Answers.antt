@@ -1,6 +1,6 @@
 use Rattle.std.proofs.Common.{◌≤◌, ◌-◌, ◌^◌, length, ap, ◌∙◌, arith}
-use Rattle.free_scan.specs.Firsts.{merged}
-use Rattle.free_scan.specs.Scanning.{finished}
+use Rattle.free_scan.specs.steps.Firsts.{merged}
+use Rattle.free_scan.specs.steps.Scanning.{finished}
 use Rattle.free_scan.proofs.WholeText.{whole_tokens, whole_firsts, few_statements}
 use Rattle.free_scan.proofs.free_form.tokens.read_text.Goals as goal
 

@@ -1,4 +1,4 @@
-use Rattle.std.proofs.Common.{length-set, ◌∙◌, sym, arith, true, if◌then◌else◌}
+use Rattle.std.proofs.Common.{length-set, ◌∙◌, arith, true, if◌then◌else◌}
 use Rattle.ftn_base.specs.ImplicitLetters.{entry_of}
 use Rattle.ftn_base.specs.Letters.{is_within}
 use Rattle.implicit_type.proofs.MapLemmas.{made_more, made_done}

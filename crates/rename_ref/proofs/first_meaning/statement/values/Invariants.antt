@@ -1,6 +1,6 @@
 use Rattle.std.proofs.Common.{◌≡◌, drop}
 use Rattle.rename_ref.specs.Meaning as meaning
-use Rattle.rename_ref.specs.MeaningSteps.{in_front}
+use Rattle.rename_ref.specs.steps.MeaningSteps.{in_front}
 use Rattle.rename_ref.proofs.first_meaning.statement.values.Given as goal
 
 abbrev pub invariant-loop-item : goal.invariant-loop-item

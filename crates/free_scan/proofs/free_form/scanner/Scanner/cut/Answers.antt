@@ -1,5 +1,5 @@
 use Rattle.std.proofs.Common.{arith}
-use Rattle.free_scan.specs.Scanning.{IsWithin, flushed}
+use Rattle.free_scan.specs.steps.Scanning.{IsWithin, flushed}
 use Rattle.free_scan.proofs.ScanLaws.{within_flushed}
 use Rattle.free_scan.proofs.free_form.scanner.Scanner.cut.Goals as goal
 

@@ -1,6 +1,6 @@
 use Rattle.std.proofs.Common.{◌+◌, length, arith}
-use Rattle.free_scan.specs.PlainText.{with_row}
-use Rattle.free_scan.specs.Scanning.{IsWithin, flushed}
+use Rattle.free_scan.specs.steps.PlainText.{with_row}
+use Rattle.free_scan.specs.steps.Scanning.{IsWithin, flushed}
 use Rattle.free_scan.proofs.PlainTextLaws.{within_flushed_row}
 use Rattle.free_scan.proofs.free_form.scanner.Scanner.cut_row.Goals as goal
 

@@ -1,5 +1,5 @@
 use Rattle.std.proofs.Common.{◌∙◌, ap, sym}
-use Rattle.free_scan.specs.Firsts.{least}
+use Rattle.free_scan.specs.steps.Firsts.{least}
 use Rattle.free_scan.proofs.PlainTextLaws.{plain_line, plain_open, plain_right, plain_uncut, within_read}
 use Rattle.free_scan.proofs.free_form.scanner.Scanner.take_line.Goals as goal
 

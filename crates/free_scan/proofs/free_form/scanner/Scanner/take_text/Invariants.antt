@@ -4,8 +4,8 @@ use Rattle.std.specs.List.{list_any}
 use Rattle.ftn_tree.specs.Breaks.{wrong_bytes}
 use Rattle.ftn_tree.specs.Code.{open_after}
 use Rattle.ftn_tree.specs.Logical.{glyphs, is_cut}
-use Rattle.free_scan.specs.Firsts.{least}
-use Rattle.free_scan.specs.Scanning as spec
+use Rattle.free_scan.specs.steps.Firsts.{least}
+use Rattle.free_scan.specs.steps.Scanning as spec
 use Rattle.free_scan.proofs.free_form.scanner.Scanner.take_text.Given as goal
 
 abbrev pub invariant-loop-byte : goal.invariant-loop-byte

@@ -1,0 +1,148 @@
+//! Executable statements and constructs of resolved programs.
+
+use crate::expr::{Actuals, Expr, VariableRef};
+use crate::io::{Inputs, Outputs};
+use crate::site::Site;
+use sqlite_items::{Boxed, Items};
+
+/// The values of one range of CASE (Fortran 90, 8.1.3): those from `low` to `high`.
+#[derive(Clone, Copy)]
+pub struct CaseValues {
+    /// The least value, where there is one.
+    pub low: Option<i32>,
+    /// The greatest value, where there is one.
+    pub high: Option<i32>,
+}
+
+/// An executable statement or construct (8, 7.5, 9.4, 12.4). PRINT and WRITE are one statement, and an IF statement is an IF construct
+/// with one arm.
+#[cycle(stmt)]
+#[derive(Drop)]
+pub enum Stmt {
+    /// An assignment to a scalar variable, an array element or a substring (7.5.1).
+    Assign {
+        /// What gets the value.
+        target: VariableRef,
+        /// The right side.
+        value: Expr,
+    },
+    /// An assignment of a scalar to each element of a whole array (7.5.1.4).
+    Fill {
+        /// The number of the array.
+        variable: u32,
+        /// The right side.
+        value: Expr,
+    },
+    /// CALL (12.4). A generic name is resolved to its specific subroutine.
+    Call {
+        /// The name.
+        at: Site,
+        /// The number of the procedure.
+        procedure: u32,
+        /// The actual arguments.
+        args: Actuals,
+    },
+    /// IF (8.1.2).
+    If {
+        /// IF and each ELSE IF with its block.
+        arms: Boxed<Arms>,
+        /// The block of ELSE.
+        otherwise: Boxed<Stmts>,
+    },
+    /// SELECT CASE (8.1.3).
+    Select {
+        /// The integer that is looked up.
+        selector: Expr,
+        /// Each CASE but CASE DEFAULT.
+        cases: Boxed<Cases>,
+        /// The block of CASE DEFAULT.
+        otherwise: Boxed<Stmts>,
+    },
+    /// DO with a variable (8.1.4.1.1).
+    Count {
+        /// The name of the variable.
+        at: Site,
+        /// The number of the variable.
+        variable: u32,
+        /// Its first value.
+        from: Expr,
+        /// What it goes to.
+        to: Expr,
+        /// What it grows by, where that is written.
+        by: Option<Expr>,
+        /// The block.
+        body: Boxed<Stmts>,
+    },
+    /// DO WHILE (8.1.4.1.1).
+    While {
+        /// The condition.
+        condition: Expr,
+        /// The block.
+        body: Boxed<Stmts>,
+    },
+    /// DO without control.
+    Forever(Boxed<Stmts>),
+    /// EXIT (8.1.4.4.4) from the DO construct that has so many others between itself and the statement.
+    Exit(u32),
+    /// CYCLE (8.1.4.4.3) of the DO construct that has so many others between itself and the statement.
+    Cycle(u32),
+    /// RETURN (12.5.2.6).
+    Return,
+    /// STOP (8.4), with or without a code.
+    Stop,
+    /// CONTINUE (8.3).
+    Continue,
+    /// PRINT or WRITE (9.4).
+    Print(Outputs),
+    /// READ (9.4).
+    Read {
+        /// The statement's first token.
+        at: Site,
+        /// What is read.
+        items: Inputs,
+    },
+}
+
+/// A block (8.1.1).
+#[cycle(stmt)]
+#[derive(Drop)]
+pub enum Stmts {
+    /// The end of the block.
+    End,
+    /// A statement or construct, and those after it.
+    More(Boxed<Stmt>, Boxed<Stmts>),
+}
+
+/// IF and ELSE IF with their blocks, in their order.
+#[cycle(stmt)]
+#[derive(Drop)]
+pub enum Arms {
+    /// No more.
+    NoArms,
+    /// A condition and its block, and the arms after it.
+    Arm {
+        /// The condition.
+        condition: Expr,
+        /// The block.
+        body: Boxed<Stmts>,
+        /// The arms after it.
+        rest: Boxed<Arms>,
+    },
+}
+
+/// CASE statements with values and their blocks, in their order.
+#[cycle(stmt)]
+#[derive(Drop)]
+pub enum Cases {
+    /// No more.
+    NoCases,
+    /// Values and their block, and the cases after it.
+    Case {
+        /// The values.
+        values: Items<CaseValues>,
+        /// The block.
+        body: Boxed<Stmts>,
+        /// The cases after it.
+        rest: Boxed<Cases>,
+    },
+}

@@ -1,0 +1,2 @@
+-- Definitions that serve proofs of the code alone; no public clause cites them.
+pub mod Edges

@@ -1,6 +1,0 @@
-use Rattle.std.proofs.Common.{◌≡◌, ◌-◌}
-use Rattle.expr_parse.specs.Combinators as spec
-use Rattle.spec_parse.proofs.list.each_after_comma.Given as goal
-
-abbrev pub invariant-turns : goal.invariant-turns
-invariant-turns g l = spec.each_after_comma g.T.Item.reader l.fn.cursor ≡ spec.each_after_comma_from g.T.Item.reader (l._turn-end - l._turn) l.found l.cursor
