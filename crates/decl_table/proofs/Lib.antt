@@ -35,3 +35,6 @@ pub mod Merging
 pub mod NameTurns
 pub mod NotedNames
 pub mod SeenNames
+pub mod WordNames
+pub mod MentionNames
+pub mod OccurrenceLists

@@ -13,6 +13,7 @@ pub mod KnownNames
 pub mod Located
 pub mod NameFindings
 pub mod Noted
+pub mod Occurrences
 pub mod Ordering
 pub mod Rows
 pub mod Rules

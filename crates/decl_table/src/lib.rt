@@ -1,10 +1,10 @@
 //! Scoping units and declarations (Fortran 90, 5, 12.5.2, 14.1.1, 14.1.2).
 //!
 //! `scope_table` gives the scoping units of a project as they are defined, each with its kind, path, host and letters.
-//! `declaration_fault` gives exactly the first fault of a project's declarations, or none where there is none. To be trusted are
-//! `Extents`, `Scopes`, `ScopeLetters`, `Sayings`, `Exclusions`, `GlobalNames`, `DeclarationFaults`, `Projects`, and of
-//! `DeclaredEntities` the entry of a scoping unit, all of `ftn_tree`; `specs/steps` serves proofs alone. It isn't said how long a call
-//! takes: about in line with statements and names, where scoping units nest as deep as they may.
+//! `occurrence_table` gives where names occur. `declaration_fault` gives exactly the first fault of a project's declarations, or none
+//! where there is none. To be trusted are `Extents`, `Scopes`, `ScopeLetters`, `Sayings`, `Exclusions`, `GlobalNames`,
+//! `DeclarationFaults`, `Projects`, and of `DeclaredEntities` the entry of a scoping unit and the occurrences, all of `ftn_tree`;
+//! `specs/steps` serves proofs alone. It isn't said how long a call takes: it grows about in line with statements and names.
 #![tactic(auto)]
 
 mod block_names;
@@ -26,6 +26,7 @@ mod letters;
 mod name_drafts;
 mod names;
 mod noted;
+mod occurrences;
 mod own;
 mod program_units;
 mod rows;
@@ -40,4 +41,5 @@ mod statements;
 mod unit_drafts;
 
 pub use faults::declaration_fault;
+pub use occurrences::occurrence_table;
 pub use scopes::scope_table;

@@ -109,6 +109,16 @@ impl Name {
         })
     }
 
+    /// The name of these bytes, which are a name in lower case already, of whatever length.
+    pub fn from_folded(alloc: Global, bytes: &[u8]) -> Result<Name, NoMemory>
+        requires { IsTrue (spec.is_folded_name bytes.now) }
+        ensures { IfOk result (λ name. name ≡ bytes.now) }
+    {
+        Ok(Name {
+            bytes: Vec::from_slice(alloc, bytes)?,
+        })
+    }
+
     /// The bytes of the name, in lower case.
     pub fn bytes(&self) -> &[u8]
         ensures bytes { result.now ≡ self.now }
