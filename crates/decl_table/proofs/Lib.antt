@@ -38,3 +38,5 @@ pub mod SeenNames
 pub mod WordNames
 pub mod MentionNames
 pub mod OccurrenceLists
+pub mod OpeningNames
+pub mod SpelledDrafts

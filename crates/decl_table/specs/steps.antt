@@ -19,5 +19,6 @@ pub mod Rows
 pub mod Rules
 pub mod Said
 pub mod Seen
+pub mod Spelled
 pub mod Statements
 pub mod UnitDrafts

@@ -13,6 +13,7 @@ mod declared_names;
 mod draft;
 mod draft_order;
 mod drafts;
+mod entities;
 mod extents;
 mod faults;
 mod finding;
