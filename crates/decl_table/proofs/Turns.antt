@@ -2,7 +2,7 @@
 use Rattle.std.proofs.Common.{◌≡◌, ℕ, suc, ◌+◌, ◌<◌, arith, List, [], ◌∷◌, ◌++◌, map, take, length, get_or, Some, option_map, refl, sym, ap, subst, ◌∙◌}
 use Rattle.std.specs.Prelude.{slice_get}
 use Rattle.std.proofs.Math.Seq.{take-suc}
-use Rattle.std.proofs.lemmas.List.{length-map}
+use Rattle.std.proofs.lemmas.List.{length-map, map-append}
 use Rattle.std.proofs.lemmas.Option.{slice_get-map, slice_get-get_or, slice_get_within, get_or_from_slice_get}
 
 next_is : (i : ℕ) → suc i ≡ i + 1
@@ -37,3 +37,10 @@ image g zs xs i z x same here there = alike (λ z. z) g zs xs i z x (map_self zs
 pub image_or : {X Z : Type 0} (g : X → Z) (zs : List Z) (xs : List X) (i : ℕ) (d : Z) (x : X) → zs ≡ map g xs → slice_get xs i ≡ Some x → get_or zs i d ≡ g x
 image_or g zs xs i d x same there =
     get_or_from_slice_get zs i (g x) d (ap (λ es. slice_get es i) same ∙ slice_get-map g xs i ∙ ap (option_map g) there)
+
+-- one more, of which the image is known
+pub one_more_is : {V X Y : Type 0} (items : V → Y) (f : X → Y) (all : List X) (i : ℕ) (x : X) → slice_get all i ≡ Some x → (made now : List V) (v : V)
+    → map items made ≡ map f (take i all) → now ≡ made ++ v ∷ [] → items v ≡ f x → map items now ≡ map f (take (i + 1) all)
+one_more_is items f all i x here made now v before pushed same =
+    ap (map items) pushed ∙ map-append items made (v ∷ []) ∙ ap (λ ys. ys ++ items v ∷ []) before ∙ ap (λ y. map f (take i all) ++ y ∷ []) same
+    ∙ sym (map-append f (take i all) (x ∷ [])) ∙ ap (map f) (sym (taken all i x here))

@@ -18,6 +18,7 @@ pub mod Ordering
 pub mod Rows
 pub mod Rules
 pub mod Said
+pub mod SaidLists
 pub mod Seen
 pub mod Spelled
 pub mod Statements

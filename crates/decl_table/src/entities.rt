@@ -14,8 +14,9 @@ ghost use Rattle.decl_table.specs.steps.Spelled.{Each, IsMaybe, IsNamed, IsSpell
 use crate::draft::Draft;
 use crate::drafts::drafts;
 use crate::forms::{name_at, span_of};
+use crate::said_lists::{own_lists, said_lists, saying_lists};
 use crate::saying::Saying;
-use crate::scoping::Scoping;
+use crate::scoping::{Scoping, scoping_units};
 use ftn_base::{Name, NoMemory};
 use ftn_tree::{Entity, FileTree, Mention};
 use sqlite_items::Items;
@@ -68,7 +69,7 @@ fn entities_from(
 
 /// The entities that a project declares, by file and first token, blank common last. For each scoping unit, in their order, all that is
 /// said in it, and the names that occur in its own statements.
-pub(crate) fn entities<'a>(
+fn entities<'a>(
     alloc: Global,
     files: &'a [FileTree],
     scoping: &Scoping,
@@ -83,4 +84,18 @@ pub(crate) fn entities<'a>(
 {
     let drafts = drafts(alloc, files, scoping, said, own)?;
     entities_from(alloc, files, &drafts)
+}
+
+/// The declared entities of a project: program units, procedures, names that specifications declare and common blocks, by file and first
+/// token, blank common last. Names that only their first letter declares, and intrinsic functions, are not among them. It fails where
+/// memory is refused.
+pub fn entity_table(alloc: Global, files: &[FileTree]) -> Result<Items<Entity>, NoMemory>
+    requires { AreTrees files.now }
+    ensures { IfOk result (λ found. found ≡ spec.entities_of files.now) }
+{
+    let scoping = scoping_units(alloc, files)?;
+    let mentions = said_lists(alloc, files, &scoping)?;
+    let said = saying_lists(alloc, files, &scoping, &mentions)?;
+    let own = own_lists(alloc, files, &scoping)?;
+    entities(alloc, files, &scoping, &said, &own)
 }

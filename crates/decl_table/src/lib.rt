@@ -32,6 +32,7 @@ mod own;
 mod program_units;
 mod rows;
 mod rules;
+mod said_lists;
 mod saying;
 mod sayings;
 mod scope_faults;
@@ -41,6 +42,7 @@ mod seen;
 mod statements;
 mod unit_drafts;
 
+pub use entities::entity_table;
 pub use faults::declaration_fault;
 pub use occurrences::occurrence_table;
 pub use scopes::scope_table;
