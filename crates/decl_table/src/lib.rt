@@ -7,6 +7,13 @@
 //! `specs/steps` serves proofs alone. It isn't said how long a call takes: it grows about in line with statements and names.
 #![tactic(auto)]
 
+mod block_names;
+mod blocks;
+mod declared_names;
+mod draft;
+mod draft_order;
+mod drafts;
+mod entities;
 mod extents;
 mod faults;
 mod finding;
@@ -14,21 +21,29 @@ mod firsts;
 mod forms;
 mod global_names;
 mod globals;
+mod heard;
 mod known_names;
 mod letters;
+mod name_drafts;
 mod names;
+mod noted;
 mod occurrences;
 mod own;
+mod program_units;
 mod rows;
 mod rules;
+mod said_lists;
 mod saying;
 mod sayings;
 mod scope_faults;
 mod scopes;
 mod scoping;
+mod seen;
 mod spelled;
 mod statements;
+mod unit_drafts;
 
+pub use entities::entity_table;
 pub use faults::declaration_fault;
 pub use occurrences::occurrence_table;
 pub use scopes::scope_table;

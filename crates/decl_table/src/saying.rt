@@ -80,4 +80,29 @@ impl<'a> Saying<'a> {
         self.said.says(Role::DimensionTwice)
             || (self.said.says(Role::External) && self.said.says(Role::Intrinsic))
     }
+    /// A procedure outside of the scoping unit (12.3.2).
+    pub(crate) fn is_outside(&self) -> bool
+        ensures { result ≡ spec.outside self.now }
+    {
+        self.said.says(Role::External)
+            || self.said.says(Role::Intrinsic)
+            || self.said.says(Role::Body)
+    }
+
+    /// What declares the name.
+    pub(crate) fn is_declaring(&self) -> bool
+        ensures { result ≡ spec.declares self.now }
+    {
+        self.said.says(Role::Dummy)
+            || self.said.says(Role::Answer)
+            || self.is_inside()
+            || self.is_outside()
+            || self.said.says(Role::Typed)
+            || self.is_bounded()
+            || self.said.says(Role::Parameter)
+            || self.is_saved()
+            || self.has_intent()
+            || self.is_member()
+            || self.said.says(Role::Tied)
+    }
 }

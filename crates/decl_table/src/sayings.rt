@@ -130,7 +130,7 @@ fn push_said(
 }
 
 /// All that is said in a scoping unit, in the order of tokens.
-fn all_said(
+pub(crate) fn all_said(
     alloc: Global,
     files: &[FileTree],
     scoping: &Scoping,
@@ -151,7 +151,7 @@ fn all_said(
 }
 
 /// Each with the name that it is said of.
-fn sayings<'a>(
+pub(crate) fn sayings<'a>(
     alloc: Global,
     files: &'a [FileTree],
     file: u32,

@@ -1,0 +1,7 @@
+use Rattle.std.proofs.Common.{◌≡◌, map, take}
+use Rattle.ftn_tree.specs.Extents.{scoping}
+use Rattle.decl_table.specs.steps.SaidLists.{all_said}
+use Rattle.decl_table.proofs.said_lists.said_lists.Given as goal
+
+abbrev pub invariant-loop-unit : goal.invariant-loop-unit
+invariant-loop-unit l = (l.number ≡ l.unit-index) × (map (λ one. one.items) l.made.items ≡ map (all_said l.files) (take l.unit-index (scoping l.files)))
