@@ -16,7 +16,7 @@ use crate::drafts::drafts;
 use crate::forms::{name_at, span_of};
 use crate::said_lists::{own_lists, said_lists, saying_lists};
 use crate::saying::Saying;
-use crate::scoping::{Scoping, scoping_units};
+use crate::scoping::Scoping;
 use crate::spelled::name_of;
 use ftn_base::{Name, NoMemory};
 use ftn_tree::{Entity, FileTree, Mention};
@@ -88,15 +88,18 @@ fn entities<'a>(
 }
 
 /// The declared entities of a project: program units, procedures, names that specifications declare and common blocks, by file and first
-/// token, blank common last. Names that only their first letter declares, and intrinsic functions, are not among them. It fails where
-/// memory is refused.
-pub fn entity_table(alloc: Global, files: &[FileTree]) -> Result<Items<Entity>, NoMemory>
-    requires { AreTrees files.now }
+/// token, blank common last. Names that only their first letter declares, and intrinsic functions, are not among them.
+pub(crate) fn entity_table(
+    alloc: Global,
+    files: &[FileTree],
+    scoping: &Scoping,
+) -> Result<Items<Entity>, NoMemory>
+    requires trees { AreTrees files.now }
+    requires known { IsScoping files.now scoping.now }
     ensures { IfOk result (λ found. found ≡ spec.entities_of files.now) }
 {
-    let scoping = scoping_units(alloc, files)?;
-    let mentions = said_lists(alloc, files, &scoping)?;
-    let said = saying_lists(alloc, files, &scoping, &mentions)?;
-    let own = own_lists(alloc, files, &scoping)?;
-    entities(alloc, files, &scoping, &said, &own)
+    let mentions = said_lists(alloc, files, scoping)?;
+    let said = saying_lists(alloc, files, scoping, &mentions)?;
+    let own = own_lists(alloc, files, scoping)?;
+    entities(alloc, files, scoping, &said, &own)
 }

@@ -11,7 +11,7 @@ use crate::finding::{Finding, Place, earlier};
 use crate::forms::span_of;
 use crate::global_names::global_fault;
 use crate::scope_faults::scopes_fault;
-use crate::scoping::{Scoping, scoping_units};
+use crate::scoping::Scoping;
 use ftn_base::{Fault, NoMemory, Span};
 use ftn_tree::FileTree;
 use std::alloc::Global;
@@ -35,7 +35,7 @@ fn fault_of(files: &[FileTree], found: Option<Finding>) -> Option<Fault>
 }
 
 /// The first finding of a project whose scoping units are these.
-pub(crate) fn first_finding(
+fn first_finding(
     alloc: Global,
     files: &[FileTree],
     scoping: &Scoping,
@@ -51,12 +51,16 @@ pub(crate) fn first_finding(
 
 /// The first fault of the declarations of a project, in the order of files, places and kinds: a name that is declared twice in one
 /// scoping unit, or a global name twice in the project (Fortran 90, 14.1.1, 14.1.2), or what conflicts (5.1.2, 5.2, 5.3, 5.5,
-/// 12.3.2, 12.5.2). It fails where memory is refused.
-pub fn declaration_fault(alloc: Global, files: &[FileTree]) -> Result<Option<Fault>, NoMemory>
-    requires { AreTrees files.now }
+/// 12.3.2, 12.5.2).
+pub(crate) fn declaration_fault(
+    alloc: Global,
+    files: &[FileTree],
+    scoping: &Scoping,
+) -> Result<Option<Fault>, NoMemory>
+    requires trees { AreTrees files.now }
+    requires known { IsScoping files.now scoping.now }
     ensures { IfOk result (λ fault. fault ≡ spec.declaration_fault files.now) }
 {
-    let scoping = scoping_units(alloc, files)?;
-    let found = first_finding(alloc, files, &scoping)?;
+    let found = first_finding(alloc, files, scoping)?;
     Ok(fault_of(files, found))
 }

@@ -1,10 +1,10 @@
 //! Scoping units and declarations (Fortran 90, 5, 12.5.2, 14.1.1, 14.1.2).
 //!
-//! `declare` gives the tables of a project as they are defined, or exactly the first fault of its declarations. `scope_table` gives its
-//! scoping units alone, each with its kind, path, host and letters, `entity_table` its declared entities, `occurrence_table` where names
-//! occur, and `declaration_fault` the first fault, or none where there is none. To be trusted are `Extents`, `Scopes`, `ScopeLetters`,
-//! `Sayings`, `Exclusions`, `GlobalNames`, `DeclarationFaults`, `DeclaredEntities` and `Projects`, all of `ftn_tree`; `specs/steps` serves
-//! proofs alone. It isn't said how long a call takes: it grows about in line with statements and names.
+//! `declare` gives the tables of a project as they are defined where its declarations have no fault, and else exactly their first fault:
+//! its scoping units, each with its kind, path, host and letters, its declared entities, and where its names occur. To be trusted are
+//! `Extents`, `Scopes`, `ScopeLetters`, `Sayings`, `Exclusions`, `GlobalNames`, `DeclarationFaults`, `DeclaredEntities` and `Projects`,
+//! all of `ftn_tree`; `specs/steps` serves proofs alone. It isn't said how long a call takes: it grows about in line with statements and
+//! names, but for the order of entities, which adds the logarithm of their number.
 #![tactic(auto)]
 
 mod block_names;
@@ -44,8 +44,4 @@ mod statements;
 mod tables;
 mod unit_drafts;
 
-pub use entities::entity_table;
-pub use faults::declaration_fault;
-pub use occurrences::occurrence_table;
-pub use scopes::scope_table;
 pub use tables::declare;

@@ -11,7 +11,7 @@ ghost use Rattle.decl_table.specs.steps.Occurrences as steps;
 use crate::forms::{name_at, span_of};
 use crate::rows::number_at;
 use crate::sayings::push_statement;
-use crate::scoping::{Scoping, scoping_units};
+use crate::scoping::Scoping;
 use crate::spelled::name_of;
 use ftn_base::NoMemory;
 use ftn_tree::{FileTree, Mention, Occurrence};
@@ -111,14 +111,18 @@ fn push_file(
 
 /// Where the names of a project occur, in the order of files and tokens: the token of each, the scoping unit in which it stands, the
 /// folded name, and where in its statement it stands.
-pub fn occurrence_table(alloc: Global, files: &[FileTree]) -> Result<Items<Occurrence>, NoMemory>
-    requires { AreTrees files.now }
+pub(crate) fn occurrence_table(
+    alloc: Global,
+    files: &[FileTree],
+    scoping: &Scoping,
+) -> Result<Items<Occurrence>, NoMemory>
+    requires trees { AreTrees files.now }
+    requires known { IsScoping files.now scoping.now }
     ensures { IfOk result (λ found. found ≡ spec.occurrences_of files.now) }
 {
-    let scoping = scoping_units(alloc, files)?;
     let mut found = Vec::new(alloc);
     for at in 0..files.len() {
-        push_file(alloc, files, &scoping, at as u32, &mut found)?;
+        push_file(alloc, files, scoping, at as u32, &mut found)?;
     }
     Ok(Items::from_vec(found))
 }

@@ -13,7 +13,7 @@ ghost use Rattle.decl_table.specs.steps.Following as steps;
 use crate::forms::{first_token_at, span_of};
 use crate::letters::after_own;
 use crate::own::own_statements;
-use crate::scoping::{Scoping, kind_of, scope_name, scoping_units, unit_at};
+use crate::scoping::{Scoping, kind_of, scope_name, unit_at};
 use ftn_base::{Bytes, Letter, NoMemory};
 use ftn_tree::{Extent, FileTree, Scope, StatementId};
 use implicit_type::LetterMap;
@@ -141,8 +141,13 @@ fn push_scope(
     Ok(entry_of(files, unit, body, host, path, types))
 }
 
-/// The entries of all scoping units.
-fn push_all(alloc: Global, files: &[FileTree], scoping: &Scoping) -> Result<Items<Scope>, NoMemory>
+/// The scoping units of a project (Fortran 90, 14.1.1), in the order of files and of the openings in each: what each is, its path and
+/// its host, the token and the statement that open it, and the implicit types of its letters (5.3).
+pub(crate) fn scope_table(
+    alloc: Global,
+    files: &[FileTree],
+    scoping: &Scoping,
+) -> Result<Items<Scope>, NoMemory>
     requires trees { AreTrees files.now }
     requires known { IsScoping files.now scoping.now }
     ensures { IfOk result (λ made. made ≡ map_of (entities.scope_entry files.now) (spec.scoping files.now)) }
@@ -155,14 +160,4 @@ fn push_all(alloc: Global, files: &[FileTree], scoping: &Scoping) -> Result<Item
         made.push(scope)?;
     }
     Ok(Items::from_vec(made))
-}
-
-/// The scoping units of a project (Fortran 90, 14.1.1), in the order of files and of the openings in each: what each is, its path and
-/// its host, the token and the statement that open it, and the implicit types of its letters (5.3).
-pub fn scope_table(alloc: Global, files: &[FileTree]) -> Result<Items<Scope>, NoMemory>
-    requires { AreTrees files.now }
-    ensures { IfOk result (λ made. made ≡ map_of (entities.scope_entry files.now) (spec.scoping files.now)) }
-{
-    let scoping = scoping_units(alloc, files)?;
-    push_all(alloc, files, &scoping)
 }

@@ -3,7 +3,7 @@ use Rattle.ftn_tree.specs.DeclaredEntities.{scope_entry}
 use Rattle.ftn_tree.specs.Extents.{scoping}
 use Rattle.ftn_tree.specs.ScopeLetters.{entries_of}
 use Rattle.ftn_tree.specs.Scopes.{path_of}
-use Rattle.decl_table.proofs.scopes.push_all.Given as goal
+use Rattle.decl_table.proofs.scopes.scope_table.Given as goal
 
 abbrev pub invariant-loop-at : goal.invariant-loop-at
 invariant-loop-at l = record {

@@ -1,7 +1,7 @@
 use Rattle.std.proofs.Common.{◌≡◌, ◌<◌, ◌^◌, length, ap, arith}
 use Rattle.ftn_tree.specs.Extents.{scoping}
 use Rattle.decl_table.proofs.Arounds.{units_few}
-use Rattle.decl_table.proofs.scopes.push_all.Goals as goal
+use Rattle.decl_table.proofs.scopes.scope_table.Goals as goal
 
 pub overflow_cast-at : goal.overflow_cast-at
 overflow_cast-at c =
