@@ -25,7 +25,6 @@ pub mod Runs
 pub mod SpelledNames
 pub mod Turns
 pub mod UnitDrafts
-pub mod Hostless
 pub mod AllDrafts
 pub mod Blanks
 pub mod BlockNames

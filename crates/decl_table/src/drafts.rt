@@ -11,8 +11,8 @@ ghost use Rattle.decl_table.specs.steps.Drafts.{drafted_of};
 use crate::blocks::{push_blank, push_blocks};
 use crate::draft::Draft;
 use crate::draft_order::in_order;
+use crate::global_names::program_units;
 use crate::name_drafts::push_names;
-use crate::program_units::units_without_host;
 use crate::saying::Saying;
 use crate::scoping::Scoping;
 use crate::unit_drafts::push_units;
@@ -38,7 +38,7 @@ pub(crate) fn drafts<'a>(
     let mut found = Vec::new(alloc);
     push_units(files, scoping, said, &mut found)?;
     push_names(alloc, files, scoping, said, own, &mut found)?;
-    let units = units_without_host(alloc, &scoping.units, &scoping.hosts)?;
+    let units = program_units(alloc, files, scoping)?;
     push_blocks(alloc, files, &units, &mut found)?;
     push_blank(files, &units, &mut found)?;
     in_order(alloc, &found)

@@ -30,7 +30,7 @@ fn push_outer(unit: Extent, host: Option<u32>, units: &mut Vec<Extent>) -> Resul
 }
 
 /// The program units: the scoping units without a host.
-fn program_units(
+pub(crate) fn program_units(
     alloc: Global,
     files: &[FileTree],
     scoping: &Scoping,

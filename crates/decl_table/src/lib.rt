@@ -29,7 +29,6 @@ mod names;
 mod noted;
 mod occurrences;
 mod own;
-mod program_units;
 mod rows;
 mod rules;
 mod said_lists;

@@ -10,11 +10,10 @@ use Rattle.decl_table.proofs.drafts.drafts.Goals as goal
 pub returns : goal.returns
 returns c =
     let files = c.args.files.now in
-    let units = c.in_ok-units.ensures files (c.deref.ensures.value ∙ c.requires.scoping.units) (c.deref-2.ensures.value ∙ c.requires.scoping.hosts) in
     let blank = c.in_ok-push_blank.ensures
-    ∙ ap (λ es. map (drafted_of files) c.push_blocks.new.found.items ++ spec.draft_blank files (blanks_of files es)) (c.deref-4.ensures.value ∙ units) in
-    IfOk-weaker c.in_order.result (λ made. made.items ≡ in_order ahead c.deref-5.result.now)
+    ∙ ap (λ es. map (drafted_of files) c.push_blocks.new.found.items ++ spec.draft_blank files (blanks_of files es)) (c.deref-2.ensures.value ∙ c.in_ok-units.ensures) in
+    IfOk-weaker c.in_order.result (λ made. made.items ≡ in_order ahead c.deref-3.result.now)
     (λ made. map (drafted_of files) made.items ≡ spec.in_order (spec.drafts files))
     (λ made is. all_in_order files c.new-found.result.items c.push_units.new.found.items c.push_names.new.found.items c.push_blocks.new.found.items c.push_blank.new.found.items
-    made.items c.new-found.ensures.items c.in_ok-push_units.ensures c.in_ok-push_names.ensures c.in_ok-push_blocks.ensures blank (is ∙ ap (in_order ahead) c.deref-5.ensures.value))
+    made.items c.new-found.ensures.items c.in_ok-push_units.ensures c.in_ok-push_names.ensures c.in_ok-push_blocks.ensures blank (is ∙ ap (in_order ahead) c.deref-3.ensures.value))
     c.in_order.ensures
