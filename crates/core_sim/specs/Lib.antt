@@ -1,0 +1,7 @@
+pub mod Pairings
+pub mod Renaming
+pub mod Covering
+pub mod Units
+pub mod Premises
+pub mod Paired
+pub mod Keeping
