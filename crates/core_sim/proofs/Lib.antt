@@ -9,3 +9,4 @@ pub mod Calls
 pub mod Trees
 pub mod Stepping
 pub mod Runs
+mod Example
