@@ -26,9 +26,8 @@ use Rattle.core_prog.specs.Programs.{Program, Procedure}
 use Rattle.core_prog.specs.Holdings.{holding}
 use Rattle.core_prog.specs.Entries.{Argument, units, own, Taken, taken, own_contents, is_emptied_by, emptied, begun, limit_at, upper_at, axes_at, unit_taken, count_taken, holding_taken, within, held_at, with_frame, prepared, entered, left, result_at}
 use Rattle.core_prog.specs.Sorts.{is_scalar}
-use Rattle.core_prog.specs.Lawful.{IsLawful}
+use Rattle.core_prog.specs.Lawful.{IsLawful, IsResult, scalar_sort}
 use Rattle.core_sim.specs.Pairings.{Pairing, partner, IsPaired}
-use Rattle.core_sim.specs.Covering.{IsPairedScalar}
 use Rattle.core_sim.specs.Units.{units_in, is_emptied}
 use Rattle.core_sim.specs.Premises.{Premises, SameVariable, Both, ArePaired, CoversLimit, CoversDimensions, CoversResult, renamed_limit, renamed_dimension}
 use Rattle.core_sim.specs.Paired.{Meets, Near, Holds, Held, SameFrames, PairedMemory}
@@ -37,6 +36,7 @@ use Rattle.core_sim.proofs.Sites.{as_whole_same}
 use Rattle.core_sim.proofs.Cells.{append_get, append_past, take_get, replaced, replaced_same, emptied_get, length_emptied}
 use Rattle.core_sim.proofs.Counting.{area_end}
 use Rattle.core_sim.proofs.Places.{unit_below, read_same, element_same}
+use Rattle.core_sim.proofs.Typed.{IsPairedScalar, IsScalarLimit, AreScalarLimits, limits_scalar, scalar_sorted, some_has}
 use Rattle.core_sim.proofs.Lodging.{holding_same}
 
 pub answers_on : {A B C D : Type 0} (R : A → B → Type 0) (S : C → D → Type 0) (r : Result A End) (r' : Result B End) (f : A → Result C End) (g : B → Result D End) →
@@ -226,10 +226,10 @@ module _ (pairing : Pairing) (old new : Program) (premises : Premises pairing ol
       answers_on Same S (read_at at (element_at x 0) m) (read_at at' (element_at y 0) m') f g
       (read_same pairing old new premises h at at' m m' (element_at x 0) (element_at y 0) paired (element_same pairing old new premises number x y 0 holds (above_zero x.count (holds.one p.1)))) same)
 
-  limit_same : (at at' : Site) (h : ℕ) (m m' : Memory) (l : Limit) → CoversLimit pairing old l → PairedMemory pairing old new h m m' → Answers Same (limit_at old at m l) (limit_at new at' m' (renamed_limit pairing l))
-  limit_same at at' h m m' (limit.Number z) p paired = refl
-  limit_same at at' h m m' (limit.Dummy number) p paired = scalar_read Same at at' number h m m' as_whole as_whole p paired as_whole_same
-  limit_same at at' h m m' limit.Open p paired = refl
+  limit_same : (at at' : Site) (h : ℕ) (m m' : Memory) (l : Limit) → CoversLimit pairing l → IsScalarLimit old l → PairedMemory pairing old new h m m' → Answers Same (limit_at old at m l) (limit_at new at' m' (renamed_limit pairing l))
+  limit_same at at' h m m' (limit.Number z) p q paired = refl
+  limit_same at at' h m m' (limit.Dummy number) p q paired = scalar_read Same at at' number h m m' as_whole as_whole (p, q) paired as_whole_same
+  limit_same at at' h m m' limit.Open p q paired = refl
 
   abbrev up_to : ℤ → ℤ → Axis
   up_to low z = record { low = low; extent = Some (span low z) }
@@ -237,11 +237,11 @@ module _ (pairing : Pairing) (old new : Program) (premises : Premises pairing ol
   upper_from : (low : ℤ) (r r' : Result ℤ End) → Answers Same r r' → Answers {A = Axis} {B = Axis} Same (r >>= (λ z. Ok (up_to low z))) (r' >>= (λ z. Ok (up_to low z)))
   upper_from low r r' h = answers_on Same Same r r' (λ z. Ok (up_to low z)) (λ z. Ok (up_to low z)) h (λ y z e. ap (up_to low) e)
 
-  upper_same : (at at' : Site) (h : ℕ) (m m' : Memory) (low : ℤ) (l : Limit) → CoversLimit pairing old l → PairedMemory pairing old new h m m' → Answers Same (upper_at old at m low l) (upper_at new at' m' low (renamed_limit pairing l))
-  upper_same at at' h m m' low (limit.Number z) p paired = refl
-  upper_same at at' h m m' low (limit.Dummy number) p paired =
-      upper_from low (limit_at old at m (limit.Dummy number)) (limit_at new at' m' (limit.Dummy (partner pairing.variable number))) (limit_same at at' h m m' (limit.Dummy number) p paired)
-  upper_same at at' h m m' low limit.Open p paired = refl
+  upper_same : (at at' : Site) (h : ℕ) (m m' : Memory) (low : ℤ) (l : Limit) → CoversLimit pairing l → IsScalarLimit old l → PairedMemory pairing old new h m m' → Answers Same (upper_at old at m low l) (upper_at new at' m' low (renamed_limit pairing l))
+  upper_same at at' h m m' low (limit.Number z) p q paired = refl
+  upper_same at at' h m m' low (limit.Dummy number) p q paired =
+      upper_from low (limit_at old at m (limit.Dummy number)) (limit_at new at' m' (limit.Dummy (partner pairing.variable number))) (limit_same at at' h m m' (limit.Dummy number) p q paired)
+  upper_same at at' h m m' low limit.Open p q paired = refl
 
   -- equal, and none where there are no dimensions
   abbrev AxesSame : List Dimension → List Axis → List Axis → Type 0
@@ -250,18 +250,18 @@ module _ (pairing : Pairing) (old new : Program) (premises : Premises pairing ol
   not_none : (d : Dimension) (ds : List Dimension) → (length (d ∷ ds) == 0) ≡ true → ⊥
   not_none d ds h = grind (arith, nat_tests)
 
-  axes_same : (at at' : Site) (h : ℕ) (m m' : Memory) (ds : List Dimension) → CoversDimensions pairing old ds → PairedMemory pairing old new h m m' → Answers (AxesSame ds) (axes_at old at m ds) (axes_at new at' m' (map (renamed_dimension pairing) ds))
-  axes_same at at' h m m' [] p paired = (refl, λ _. refl)
-  axes_same at at' h m m' (d ∷ ds) p paired =
+  axes_same : (at at' : Site) (h : ℕ) (m m' : Memory) (ds : List Dimension) → CoversDimensions pairing ds → AreScalarLimits old ds → PairedMemory pairing old new h m m' → Answers (AxesSame ds) (axes_at old at m ds) (axes_at new at' m' (map (renamed_dimension pairing) ds))
+  axes_same at at' h m m' [] p s paired = (refl, λ _. refl)
+  axes_same at at' h m m' (d ∷ ds) p s paired =
       answers_on Same (AxesSame (d ∷ ds)) (limit_at old at m d.low) (limit_at new at' m' (renamed_limit pairing d.low))
       (λ low. upper_at old at m low d.high >>= (λ axis. axes_at old at m ds >>= (λ axes. Ok (axis ∷ axes))))
       (λ low. upper_at new at' m' low (renamed_limit pairing d.high) >>= (λ axis. axes_at new at' m' (map (renamed_dimension pairing) ds) >>= (λ axes. Ok (axis ∷ axes))))
-      (limit_same at at' h m m' d.low p.0 paired) (λ low low' e.
+      (limit_same at at' h m m' d.low p.0 s.0 paired) (λ low low' e.
       answers_on Same (AxesSame (d ∷ ds)) (upper_at old at m low d.high) (upper_at new at' m' low' (renamed_limit pairing d.high))
       (λ axis. axes_at old at m ds >>= (λ axes. Ok (axis ∷ axes))) (λ axis. axes_at new at' m' (map (renamed_dimension pairing) ds) >>= (λ axes. Ok (axis ∷ axes)))
-      (subst (λ z. Answers Same (upper_at old at m low d.high) (upper_at new at' m' z (renamed_limit pairing d.high))) e (upper_same at at' h m m' low d.high p.1 paired)) (λ axis axis' f.
+      (subst (λ z. Answers Same (upper_at old at m low d.high) (upper_at new at' m' z (renamed_limit pairing d.high))) e (upper_same at at' h m m' low d.high p.1 s.1 paired)) (λ axis axis' f.
       answers_on (AxesSame ds) (AxesSame (d ∷ ds)) (axes_at old at m ds) (axes_at new at' m' (map (renamed_dimension pairing) ds)) (λ axes. Ok (axis ∷ axes)) (λ axes. Ok (axis' ∷ axes))
-      (axes_same at at' h m m' ds p.2 paired) (λ axes axes' g. (cc (f, g.0), λ q. absurd (not_none d ds q)))))
+      (axes_same at at' h m m' ds p.2 s.2 paired) (λ axes axes' g. (cc (f, g.0), λ q. absurd (not_none d ds q)))))
 
   -- ---- dummy arguments
 
@@ -305,7 +305,7 @@ module _ (pairing : Pairing) (old new : Program) (premises : Premises pairing ol
   held_same at at' h m m' (number ∷ numbers) (t ∷ ts) (t' ∷ ts') p same paired =
       by_variables (slice_get old.variables number) (slice_get new.variables (partner pairing.variable number)) refl (premises.variables number p.0) (held_same at at' h m m' numbers ts ts' p.1 same.1 paired)
     where
-      by_variables : (o o' : Option Variable) → slice_get old.variables number ≡ o → Both (SameVariable pairing old) o o' →
+      by_variables : (o o' : Option Variable) → slice_get old.variables number ≡ o → Both (SameVariable pairing) o o' →
           Answers (Held pairing old new numbers) (held_at old at m numbers ts) (held_at new at' m' (map (partner pairing.variable) numbers) ts') →
           Answers (Held pairing old new (number ∷ numbers))
           (found o >>= (λ v. axes_at old at m v.dimensions >>= (λ axes. within at t.units (holding_taken v axes t) >>= (λ x. held_at old at m numbers ts >>= (λ xs. Ok (x ∷ xs))))))
@@ -317,7 +317,7 @@ module _ (pairing : Pairing) (old new : Program) (premises : Premises pairing ol
           answers_on (AxesSame v.dimensions) (Held pairing old new (number ∷ numbers)) (axes_at old at m v.dimensions) (axes_at new at' m' v'.dimensions)
           (λ axes. within at t.units (holding_taken v axes t) >>= (λ x. held_at old at m numbers ts >>= (λ xs. Ok (x ∷ xs))))
           (λ axes. within at' t'.units (holding_taken v' axes t') >>= (λ x. held_at new at' m' (map (partner pairing.variable) numbers) ts' >>= (λ xs. Ok (x ∷ xs))))
-          (subst (λ ds. Answers (AxesSame v.dimensions) (axes_at old at m v.dimensions) (axes_at new at' m' ds)) (sym b.dimensions) (axes_same at at' h m m' v.dimensions b.bounds paired)) (λ axes axes' e.
+          (subst (λ ds. Answers (AxesSame v.dimensions) (axes_at old at m v.dimensions) (axes_at new at' m' ds)) (sym b.dimensions) (axes_same at at' h m m' v.dimensions b.bounds (limits_scalar old number v v.home (premises.lawful.variables number v d)) paired)) (λ axes axes' e.
           answers_on (Holds pairing old new number) (Held pairing old new (number ∷ numbers)) (within at t.units (holding_taken v axes t)) (within at' t'.units (holding_taken v' axes' t'))
           (λ x. held_at old at m numbers ts >>= (λ xs. Ok (x ∷ xs))) (λ x. held_at new at' m' (map (partner pairing.variable) numbers) ts' >>= (λ xs. Ok (x ∷ xs)))
           (taken_held at at' number v v' axes axes' t t' d b.ty e.0 e.1 same.0) (λ x x' f.
@@ -380,6 +380,8 @@ module _ (pairing : Pairing) (old new : Program) (premises : Premises pairing ol
               take_get mark m.cells at (before_height at (units_in old) h u.0 mark u.1 q e) ∙ paired.contents at at' (inr u) ∙ sym (take_get mark' m'.cells at' (before_height at' (units_in new) h u.0 mark' u.2 q e'))
           by_height (inr q) = past_end m.cells mark (units_in old) h more at u.0 e paired.places u.1 q ∙ sym (past_end m'.cells mark' (units_in new) h more at' u.0 e' paired.places_new u.2 q)
 
-  pub result_same : (at at' : Site) (h : ℕ) (m m' : Memory) (result : Option ℕ) → CoversResult pairing old result → PairedMemory pairing old new h m m' → Answers Same (result_at old at result m) (result_at new at' (option_map (partner pairing.variable) result) m')
-  result_same at at' h m m' None p paired = refl
-  result_same at at' h m m' (Some number) p paired = scalar_read Same at at' number h m m' (λ v. Ok (Some v)) (λ v. Ok (Some v)) p paired (λ v w e. ap Some e)
+  pub result_same : (at at' : Site) (h : ℕ) (m m' : Memory) (result : Option ℕ) → CoversResult pairing result → IsResult old result → PairedMemory pairing old new h m m' →
+      Answers Same (result_at old at result m) (result_at new at' (option_map (partner pairing.variable) result) m')
+  result_same at at' h m m' None p q paired = refl
+  result_same at at' h m m' (Some number) p q paired =
+      scalar_read Same at at' number h m m' (λ v. Ok (Some v)) (λ v. Ok (Some v)) (p, scalar_sorted old number (some_has (scalar_sort old number) q)) paired (λ v w e. ap Some e)

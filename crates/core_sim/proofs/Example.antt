@@ -121,7 +121,7 @@ premises = record {
   lawful = alone_lawful;
   lawful_new = behind_lawful;
   main = refl;
-  covered = ((((refl, refl), tt, tt), (((refl, refl), tt, tt), tt)), ((((refl, refl), tt, tt), tt), tt));
+  covered = (((refl, tt, tt), ((refl, tt, tt), tt)), (((refl, tt, tt), tt), tt));
   procedures = λ n e. absurd (cc e);
   one_procedure = λ n other both e. absurd (cc e);
   variables = variables;
@@ -130,7 +130,7 @@ premises = record {
   initial = initial;
 }
   where
-    variables : (n : ℕ) → IsPaired second n → Both (SameVariable moved alone) (slice_get alone.variables n) (slice_get behind.variables (partner second n))
+    variables : (n : ℕ) → IsPaired second n → Both (SameVariable moved) (slice_get alone.variables n) (slice_get behind.variables (partner second n))
     variables zero e = record { ty = refl; dimensions = refl; bounds = tt; home = tt }
     variables (suc n) e = absurd (cc e)
 

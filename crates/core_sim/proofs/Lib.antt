@@ -10,3 +10,4 @@ pub mod Trees
 pub mod Stepping
 pub mod Runs
 mod Example
+pub mod Typed

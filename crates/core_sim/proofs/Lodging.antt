@@ -23,9 +23,8 @@ use Rattle.core_prog.specs.Entries.{not_active}
 use Rattle.core_prog.specs.Sorts.{is_scalar}
 use Rattle.core_prog.specs.Lawful.{IsAtHome, IsStored, IsTaken, units_of_all}
 use Rattle.core_sim.specs.Pairings.{Pairing, partner, IsPaired}
-use Rattle.core_sim.specs.Covering.{is_scalar_at}
 use Rattle.core_sim.specs.Premises.{Premises, SameHome, SameVariable, Both, renamed_limit, renamed_dimension}
-use Rattle.core_sim.specs.Paired.{Holds, Held, SameFrame, SameFrames, PairedMemory}
+use Rattle.core_sim.specs.Paired.{is_scalar_at, Holds, Held, SameFrame, SameFrames, PairedMemory}
 use Rattle.core_sim.proofs.Answering.{Any, Answers}
 use Rattle.core_sim.proofs.Cells.{same_test}
 use Rattle.core_sim.proofs.Places.{only_one}
@@ -68,7 +67,7 @@ module _ (pairing : Pairing) (old new : Program) (premises : Premises pairing ol
 
   stored_held : (number : ℕ) (v v' : Variable) (place offset : ℕ) (owner : Option ℕ) (place' offset' : ℕ) (owner' : Option ℕ) → IsPaired pairing.variable number →
       slice_get old.variables number ≡ Some v → slice_get new.variables (partner pairing.variable number) ≡ Some v' →
-      v.home ≡ home.Stored place offset owner → v'.home ≡ home.Stored place' offset' owner' → SameVariable pairing old v v' →
+      v.home ≡ home.Stored place offset owner → v'.home ≡ home.Stored place' offset' owner' → SameVariable pairing v v' →
       (s : IsStored old v place offset owner) → (s' : IsStored new v' place' offset' owner') → Holds pairing old new number (stored_in v offset s.area) (stored_in v' offset' s'.area)
   stored_held number v v' place offset owner place' offset' owner' p d d' h h' same s s' =
       let axes : map fixed_axis v'.dimensions ≡ map fixed_axis v.dimensions = ap (map fixed_axis) same.dimensions ∙ same_axes v.dimensions in
@@ -162,7 +161,7 @@ module _ (pairing : Pairing) (old new : Program) (premises : Premises pairing ol
   some_area o area f e = ap (λ p. found p >>= (λ a. Ok (f a))) e
 
   homes : (number : ℕ) (v v' : Variable) (w w' : Home) → IsPaired pairing.variable number → slice_get old.variables number ≡ Some v → slice_get new.variables (partner pairing.variable number) ≡ Some v' →
-      v.home ≡ w → v'.home ≡ w' → SameVariable pairing old v v' → SameHome pairing w w' → IsAtHome old number v w → IsAtHome new (partner pairing.variable number) v' w' → (m m' : Memory) → Frames m.active m'.active →
+      v.home ≡ w → v'.home ≡ w' → SameVariable pairing v v' → SameHome pairing w w' → IsAtHome old number v w → IsAtHome new (partner pairing.variable number) v' w' → (m m' : Memory) → Frames m.active m'.active →
       Answers (Holds pairing old new number) (home_of old v w m) (home_of new v' w' m')
   homes number v v' (home.Stored place offset owner) (home.Stored place' offset' owner') p d d' h h' same w s s' m m' f =
       subst (λ r. Answers (Holds pairing old new number) r (home_of new v' (home.Stored place' offset' owner') m')) (sym (some_area (slice_get old.areas place) s.area (stored_in v offset) s.there))
@@ -179,7 +178,7 @@ module _ (pairing : Pairing) (old new : Program) (premises : Premises pairing ol
   holding_same number p h m m' paired =
       by_variables (slice_get old.variables number) (slice_get new.variables (partner pairing.variable number)) refl refl (premises.variables number p)
     where
-      by_variables : (o o' : Option Variable) → slice_get old.variables number ≡ o → slice_get new.variables (partner pairing.variable number) ≡ o' → Both (SameVariable pairing old) o o' →
+      by_variables : (o o' : Option Variable) → slice_get old.variables number ≡ o → slice_get new.variables (partner pairing.variable number) ≡ o' → Both (SameVariable pairing) o o' →
           Answers (Holds pairing old new number) (found o >>= (λ v. home_of old v v.home m)) (found o' >>= (λ v. home_of new v v.home m'))
       by_variables None None d d' b = absurd b
       by_variables None (Some v') d d' b = absurd b

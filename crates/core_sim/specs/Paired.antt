@@ -1,11 +1,16 @@
 -- States of two programs that hold the same by a pairing (this project's own).
-use Rattle.std.specs.Prelude.{◌≡◌, ◌≤◌, ◌⊎◌, ℕ, ◌+◌, ◌-◌, ◌*◌, true, List, [], ◌∷◌, length, slice_get, Some}
+use Rattle.std.specs.Prelude.{◌≡◌, ◌≤◌, ◌⊎◌, ℕ, ◌+◌, ◌-◌, ◌*◌, Bool, true, false, List, [], ◌∷◌, length, slice_get, Some}
+use Rattle.std.specs.Option.{option_map_or}
+use Rattle.core_prog.specs.Sorts.{is_scalar}
 use Rattle.core_prog.specs.Memory.{Holding, Frame, Memory}
 use Rattle.core_prog.specs.Programs.{Program, Procedure}
 use Rattle.core_prog.specs.States.{State}
 use Rattle.core_sim.specs.Pairings.{Pairing}
-use Rattle.core_sim.specs.Covering.{is_scalar_at}
 use Rattle.core_sim.specs.Units.{units_in, SameUnit}
+
+-- a variable without dimensions
+abbrev pub is_scalar_at : Program → ℕ → Bool
+is_scalar_at program number = option_map_or is_scalar (slice_get program.variables number) false
 
 module _ (pairing : Pairing) (old new : Program) where
   -- two places are one: the same unit of partners, or the same of the places that arguments were given

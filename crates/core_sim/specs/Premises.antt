@@ -11,7 +11,7 @@ use Rattle.core_prog.specs.Programs.{Program, Procedure}
 use Rattle.core_prog.specs.Lawful.{IsLawful}
 use Rattle.core_sim.specs.Pairings.{Pairing, partner, IsPaired}
 use Rattle.core_sim.specs.Renaming.{renamed_block}
-use Rattle.core_sim.specs.Covering.{IsPairedScalar, CoversBlock}
+use Rattle.core_sim.specs.Covering.{CoversBlock}
 use Rattle.core_sim.specs.Units.{SameUnit, is_emptied, first_contents}
 
 module _ (pairing : Pairing) where
@@ -32,33 +32,32 @@ module _ (pairing : Pairing) where
   ArePaired [] = Unit {0}
   ArePaired (number ∷ numbers) = IsPaired pairing.variable number × ArePaired numbers
 
-  module _ (old : Program) where
-    -- 5.1.2: a bound that is a dummy argument is a scalar that has a partner
-    abbrev pub CoversLimit : Limit → Type 0
-    CoversLimit (limit.Dummy number) = IsPairedScalar pairing old number
-    CoversLimit other = Unit {0}
+  -- 5.1.2: a bound that is a dummy argument has a partner
+  abbrev pub CoversLimit : Limit → Type 0
+  CoversLimit (limit.Dummy number) = IsPaired pairing.variable number
+  CoversLimit other = Unit {0}
 
-    abbrev pub CoversDimensions : List Dimension → Type 0
-    CoversDimensions [] = Unit {0}
-    CoversDimensions (d ∷ ds) = CoversLimit d.low × CoversLimit d.high × CoversDimensions ds
+  abbrev pub CoversDimensions : List Dimension → Type 0
+  CoversDimensions [] = Unit {0}
+  CoversDimensions (d ∷ ds) = CoversLimit d.low × CoversLimit d.high × CoversDimensions ds
 
-    abbrev pub CoversResult : Option ℕ → Type 0
-    CoversResult None = Unit {0}
-    CoversResult (Some number) = IsPairedScalar pairing old number
+  abbrev pub CoversResult : Option ℕ → Type 0
+  CoversResult None = Unit {0}
+  CoversResult (Some number) = IsPaired pairing.variable number
 
-    pub record SameVariable (before after : Variable) : Type 0 where
-      pub ty : after.ty ≡ before.ty
-      pub dimensions : after.dimensions ≡ map renamed_dimension before.dimensions
-      pub bounds : CoversDimensions before.dimensions
-      pub home : SameHome before.home after.home
+  pub record SameVariable (before after : Variable) : Type 0 where
+    pub ty : after.ty ≡ before.ty
+    pub dimensions : after.dimensions ≡ map renamed_dimension before.dimensions
+    pub bounds : CoversDimensions before.dimensions
+    pub home : SameHome before.home after.home
 
-    pub record SameProcedure (before after : Procedure) : Type 0 where
-      pub dummies : after.dummies ≡ map (partner pairing.variable) before.dummies
-      pub dummies_paired : ArePaired before.dummies
-      pub result : after.result ≡ option_map (partner pairing.variable) before.result
-      pub result_paired : CoversResult before.result
-      pub body : after.body ≡ renamed_block pairing before.body
-      pub covered : CoversBlock pairing old before.body
+  pub record SameProcedure (before after : Procedure) : Type 0 where
+    pub dummies : after.dummies ≡ map (partner pairing.variable) before.dummies
+    pub dummies_paired : ArePaired before.dummies
+    pub result : after.result ≡ option_map (partner pairing.variable) before.result
+    pub result_paired : CoversResult before.result
+    pub body : after.body ≡ renamed_block pairing before.body
+    pub covered : CoversBlock pairing before.body
 
 -- both are there, and are related
 abbrev pub Both : {A : Type 0} → (A → A → Type 0) → Option A → Option A → Type 0
@@ -69,10 +68,10 @@ pub record Premises (pairing : Pairing) (old new : Program) : Type 0 where
   pub lawful : IsLawful old
   pub lawful_new : IsLawful new
   pub main : new.main ≡ renamed_block pairing old.main
-  pub covered : CoversBlock pairing old old.main
-  pub procedures : (number : ℕ) → IsPaired pairing.procedure number → Both (SameProcedure pairing old) (slice_get old.procedures number) (slice_get new.procedures (partner pairing.procedure number))
+  pub covered : CoversBlock pairing old.main
+  pub procedures : (number : ℕ) → IsPaired pairing.procedure number → Both (SameProcedure pairing) (slice_get old.procedures number) (slice_get new.procedures (partner pairing.procedure number))
   pub one_procedure : (number other both : ℕ) → pairing.procedure number ≡ Some both → pairing.procedure other ≡ Some both → number ≡ other
-  pub variables : (number : ℕ) → IsPaired pairing.variable number → Both (SameVariable pairing old) (slice_get old.variables number) (slice_get new.variables (partner pairing.variable number))
+  pub variables : (number : ℕ) → IsPaired pairing.variable number → Both (SameVariable pairing) (slice_get old.variables number) (slice_get new.variables (partner pairing.variable number))
   -- units of partners are one in the old program exactly where they are one in the new one
   pub shared : (at at' to to' : ℕ) → SameUnit pairing old new at at' → SameUnit pairing old new to to' → (at ≡ to → at' ≡ to') × (at' ≡ to' → at ≡ to)
   pub emptied : (at at' number : ℕ) → SameUnit pairing old new at at' → IsPaired pairing.procedure number → is_emptied old number at ≡ is_emptied new (partner pairing.procedure number) at'
