@@ -166,7 +166,7 @@ module _ (pairing : Pairing) (old new : Program) (premises : Premises pairing ol
       slice_get (emptied number old.areas m.cells ++ cs) at ≡ slice_get (emptied (partner pairing.procedure number) new.areas m'.cells ++ cs) at'
   prepared_contents number h m m' cs p paired at at' (inl u) =
       front old number at m.cells cs (within_all at (units_in old) h (length m.cells) (unit_below old premises.lawful u.number u.unit at u.before) paired.places)
-      ∙ replaced_same Nothing (is_emptied old number at) (is_emptied new (partner pairing.procedure number) at') (slice_get m.cells at) (slice_get m'.cells at') (premises.emptied at at' number u p) (paired.contents at at' (inl u))
+      ∙ replaced_same Nothing (is_emptied old number at) (is_emptied new (partner pairing.procedure number) at') (slice_get m.cells at) (slice_get m'.cells at') (premises.storage.emptied at at' number u p) (paired.contents at at' (inl u))
       ∙ sym (front new (partner pairing.procedure number) at' m'.cells cs (within_all at' (units_in new) h (length m'.cells) (unit_below new premises.lawful_new (partner pairing.variable u.number) u.unit at' u.after) paired.places_new))
   prepared_contents number h m m' cs p paired at at' (inr u) = by_height (below_or u.0 h)
     where

@@ -125,9 +125,11 @@ premises = record {
   procedures = λ n e. absurd (cc e);
   one_procedure = λ n other both e. absurd (cc e);
   variables = variables;
-  shared = λ at at' to to' u v. (λ e. (at_units at at' u).1 ∙ sym (at_units to to' v).1, λ e. (at_units at at' u).0 ∙ sym (at_units to to' v).0);
-  emptied = λ at at' n u e. absurd (cc e);
-  initial = initial;
+  storage = record {
+    shared = λ at at' to to' u v. (λ e. (at_units at at' u).1 ∙ sym (at_units to to' v).1, λ e. (at_units at at' u).0 ∙ sym (at_units to to' v).0);
+    emptied = λ at at' n u e. absurd (cc e);
+    initial = initial;
+  };
 }
   where
     variables : (n : ℕ) → IsPaired second n → Both (SameVariable moved) (slice_get alone.variables n) (slice_get behind.variables (partner second n))

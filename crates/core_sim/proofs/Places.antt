@@ -75,7 +75,7 @@ module _ (pairing : Pairing) (old new : Program) (premises : Premises pairing ol
   same_place a b c d u v n m e f g h = (λ q. omega arith, λ q. omega arith)
 
   pub meets_once : (a b c d : ℕ) → Meet a b → Meet c d → (a ≡ c → b ≡ d) × (b ≡ d → a ≡ c)
-  meets_once a b c d (inl u) (inl v) = premises.shared a b c d u v
+  meets_once a b c d (inl u) (inl v) = premises.storage.shared a b c d u v
   meets_once a b c d (inl u) (inr v) = (
     λ e. absurd (not_there a v.0 c (units_in old) (unit_below old premises.lawful u.number u.unit a u.before) v.1 e),
     λ e. absurd (not_there b v.0 d (units_in new) (unit_below new premises.lawful_new (partner pairing.variable u.number) u.unit b u.after) v.2 e),

@@ -67,7 +67,7 @@ module _ (pairing : Pairing) (old new : Program) (premises : Premises pairing ol
   }
     where
       contents : (at at' : ℕ) → Meets pairing old new at at' → slice_get (first_contents old) at ≡ slice_get (first_contents new) at'
-      contents at at' (inl u) = premises.initial at at' u
+      contents at at' (inl u) = premises.storage.initial at at' u
       contents at at' (inr u) =
           slice_get_past (first_contents old) at (past_all (length (first_contents old)) (units_in old) at u.0 (first_length old.areas) u.1)
           ∙ sym (slice_get_past (first_contents new) at' (past_all (length (first_contents new)) (units_in new) at' u.0 (first_length new.areas) u.2))

@@ -64,6 +64,13 @@ abbrev pub Both : {A : Type 0} → (A → A → Type 0) → Option A → Option 
 Both Same (Some before) (Some after) = Same before after
 Both Same before after = ⊥
 
+-- storage is the same by the pairing
+pub record SameStorage (pairing : Pairing) (old new : Program) : Type 0 where
+  -- units of partners are one in the old program exactly where they are one in the new one
+  pub shared : (at at' to to' : ℕ) → SameUnit pairing old new at at' → SameUnit pairing old new to to' → (at ≡ to → at' ≡ to') × (at' ≡ to' → at ≡ to)
+  pub emptied : (at at' number : ℕ) → SameUnit pairing old new at at' → IsPaired pairing.procedure number → is_emptied old number at ≡ is_emptied new (partner pairing.procedure number) at'
+  pub initial : (at at' : ℕ) → SameUnit pairing old new at at' → slice_get (first_contents old) at ≡ slice_get (first_contents new) at'
+
 pub record Premises (pairing : Pairing) (old new : Program) : Type 0 where
   pub lawful : IsLawful old
   pub lawful_new : IsLawful new
@@ -72,7 +79,4 @@ pub record Premises (pairing : Pairing) (old new : Program) : Type 0 where
   pub procedures : (number : ℕ) → IsPaired pairing.procedure number → Both (SameProcedure pairing) (slice_get old.procedures number) (slice_get new.procedures (partner pairing.procedure number))
   pub one_procedure : (number other both : ℕ) → pairing.procedure number ≡ Some both → pairing.procedure other ≡ Some both → number ≡ other
   pub variables : (number : ℕ) → IsPaired pairing.variable number → Both (SameVariable pairing) (slice_get old.variables number) (slice_get new.variables (partner pairing.variable number))
-  -- units of partners are one in the old program exactly where they are one in the new one
-  pub shared : (at at' to to' : ℕ) → SameUnit pairing old new at at' → SameUnit pairing old new to to' → (at ≡ to → at' ≡ to') × (at' ≡ to' → at ≡ to)
-  pub emptied : (at at' number : ℕ) → SameUnit pairing old new at at' → IsPaired pairing.procedure number → is_emptied old number at ≡ is_emptied new (partner pairing.procedure number) at'
-  pub initial : (at at' : ℕ) → SameUnit pairing old new at at' → slice_get (first_contents old) at ≡ slice_get (first_contents new) at'
+  pub storage : SameStorage pairing old new
