@@ -20,12 +20,12 @@ use Rattle.core_sim.proofs.Arrivals.{ArgumentsSame, entered_same, left_same, res
 
 module _ (pairing : Pairing) (old new : Program) (premises : Premises pairing old new) where
   abbrev pub ProcedureSame : ℕ → Procedure → Procedure → Type 0
-  ProcedureSame number proc proc' = (slice_get old.procedures number ≡ Some proc) × SameProcedure pairing proc proc'
+  ProcedureSame number proc proc' = (slice_get old.procedures number ≡ Some proc) × SameProcedure pairing number proc proc'
 
   pub procedure_same : (number : ℕ) → IsPaired pairing.procedure number → Answers (ProcedureSame number) (procedure old number) (procedure new (partner pairing.procedure number))
   procedure_same number p = by_procedures (slice_get old.procedures number) (slice_get new.procedures (partner pairing.procedure number)) refl (premises.procedures number p)
     where
-      by_procedures : (o o' : Option Procedure) → slice_get old.procedures number ≡ o → Both (SameProcedure pairing) o o' → Answers (ProcedureSame number) (found o) (found o')
+      by_procedures : (o o' : Option Procedure) → slice_get old.procedures number ≡ o → Both (SameProcedure pairing number) o o' → Answers (ProcedureSame number) (found o) (found o')
       by_procedures None None e b = absurd b
       by_procedures None (Some proc') e b = absurd b
       by_procedures (Some proc) None e b = absurd b
@@ -36,9 +36,9 @@ module _ (pairing : Pairing) (old new : Program) (premises : Premises pairing ol
   abbrev Marks : ℕ → ℕ → ℕ → Type 0
   Marks h mark mark' = (mark ≡ units_in old + h) × (mark' ≡ units_in new + h)
 
-  leaving_same : {X : Type 0} (h more : ℕ) (at at' : Site) (proc proc' : Procedure) (mark mark' : ℕ) → (X → SameProcedure pairing proc proc' × IsResult old proc.result × Marks h mark mark') →
+  leaving_same : {X : Type 0} (h more : ℕ) (at at' : Site) (number : ℕ) (proc proc' : Procedure) (mark mark' : ℕ) → (X → SameProcedure pairing number proc proc' × IsResult old proc.result × Marks h mark mark') →
       Rel X (h + more) h (Option Value) (Option Value) Same (leaving old at proc mark) (leaving new at' proc' mark')
-  leaving_same h more at at' proc proc' mark mark' f =
+  leaving_same h more at at' number proc proc' mark mark' f =
       closed.binds (h + more) (h + more) h _ _ _ _ _ _ (closed.ticks (h + more)) (λ _ _.
       closed.binds (h + more) (h + more) h Same _ _ _ _ _ (closed.asked (h + more) Same (result_at old at proc.result) (result_at new at' proc'.result) (λ x m m' p.
       subst (λ o. Answers Same (result_at old at proc.result m) (result_at new at' o m')) (sym (f x.0).0.result) (result_same pairing old new premises at at' (h + more) m m' proc.result (f x.0).0.result_paired (f x.0).1 p))) (λ r r'.
@@ -59,7 +59,7 @@ module _ (pairing : Pairing) (old new : Program) (premises : Premises pairing ol
         closed.binds h (h + length (own_contents args)) h _ _ _ _ _ _ (closed.remembered h (h + length (own_contents args)) inside inside' (λ x. x.1)) (λ _ _.
         closed.binds (h + length (own_contents args)) (h + length (own_contents args)) h _ _ _ _ _ _
         (closed.knows (h + length (own_contents args)) (h + length (own_contents args)) Same _ _ (λ x. (f x.0.0.0.0).0) (bodies (h + length (own_contents args)) number)) (λ _ _.
-        leaving_same h (length (own_contents args)) at at' proc proc' mark mark' (λ x. (x.0.0.0.0.1.1, (premises.lawful.procedures number proc x.0.0.0.0.1.0).result, x.0.0.0.1)))))))
+        leaving_same h (length (own_contents args)) at at' number proc proc' mark mark' (λ x. (x.0.0.0.0.1.1, (premises.lawful.procedures number proc x.0.0.0.0.1.0).result, x.0.0.0.1)))))))
 
     pub called_same : {X : Type 0} (h : ℕ) (at at' : Site) (number : ℕ) (args args' : List Argument) → (X → IsPaired pairing.procedure number × ArgumentsSame pairing old new premises args args') →
         Rel X h h (Option Value) (Option Value) Same (called old body at number args) (called new body' at' (partner pairing.procedure number) args')

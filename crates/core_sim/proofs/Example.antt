@@ -52,7 +52,7 @@ second zero = Some 1
 second (suc n) = None
 
 abbrev moved : Pairing
-moved = record { variable = second; procedure = λ _. None; site = λ at. at }
+moved = record { variable = second; procedure = λ _. None; site = λ at. at; swap = λ _. None }
 
 only_first : (n : ℕ) → IsPaired second n → n ≡ 0
 only_first zero e = refl
@@ -130,6 +130,7 @@ premises = record {
     emptied = λ at at' n u e. absurd (cc e);
     initial = initial;
   };
+  swaps = λ unit s e. absurd (cc e);
 }
   where
     variables : (n : ℕ) → IsPaired second n → Both (SameVariable moved) (slice_get alone.variables n) (slice_get behind.variables (partner second n))
@@ -140,4 +141,4 @@ premises = record {
     initial at at' u = ap (slice_get (first_contents alone)) (at_units at at' u).0 ∙ sym (ap (slice_get (first_contents behind)) (at_units at at' u).1)
 
 pub moved_alike : AlikeWithin 1 alone behind
-moved_alike = alike_within moved alone behind premises 1 (omega arith)
+moved_alike = alike_within moved alone behind premises (λ _. refl) 1 (omega arith)

@@ -1,6 +1,6 @@
 -- Bodies, statements and runs of two programs that meet the premises do the same.
 use Rattle.std.proofs.Common.{inl, inr, ◌≡◌, ◌≤◌, ◌+◌, ◌-◌, ◌*◌, ℕ, zero, suc, List, [], ◌∷◌, ◌++◌, length, refl, sym, ap, subst, ◌∙◌, arith}
-use Rattle.std.specs.Prelude.{Bool, true, false, flat_map, sum_by, replicate, slice_get}
+use Rattle.std.specs.Prelude.{Option, Some, None, Bool, true, false, flat_map, sum_by, replicate, slice_get}
 use Rattle.std.proofs.lemmas.List.{length-append, length-replicate, length-take-le, append-nil}
 use Rattle.std.proofs.lemmas.List.Sums.{sum_by-cons}
 use Rattle.std.proofs.lemmas.Option.{slice_get_past}
@@ -21,8 +21,9 @@ use Rattle.core_prog.specs.Sorts.{sort_of}
 use Rattle.core_prog.specs.Lawful.{has_sort, is_block}
 use Rattle.core_prog.specs.Lasting.{state_of, GoesOn}
 use Rattle.core_prog.proofs.Passing.{later_same, bodies_pass, blocks_pass}
-use Rattle.core_sim.specs.Pairings.{Pairing, partner, IsPaired}
-use Rattle.core_sim.specs.Renaming.{renamed_block, renamed_term}
+use Rattle.core_sim.specs.Pairings.{Pairing, Swap, partner, IsPaired}
+use Rattle.core_sim.specs.Renaming.{number_of, swap_of, renamed_block, renamed_term}
+use Rattle.core_sim.specs.Swaps.{HasNoSwap}
 use Rattle.core_sim.specs.Covering.{CoversBlock, CoversTerm}
 use Rattle.core_sim.specs.Units.{units_in, first_contents}
 use Rattle.core_sim.specs.Premises.{Premises}
@@ -57,7 +58,11 @@ none_added n m e = omega arith
 past_all : (n all at i : ℕ) → n ≡ all → at ≡ all + i → n ≤ at
 past_all n all at i e f = omega arith
 
-module _ (pairing : Pairing) (old new : Program) (premises : Premises pairing old new) where
+swap_of_none : (o : Option Swap) (number : ℕ) (s : Swap) → o ≡ None → swap_of o number ≡ Some s → ⊥
+swap_of_none None number s e f = cc f
+swap_of_none (Some t) number s e f = cc e
+
+module _ (pairing : Pairing) (old new : Program) (premises : Premises pairing old new) (none : HasNoSwap pairing) where
   first_paired : PairedMemory pairing old new 0 (record { cells = first_contents old; active = [] }) (record { cells = first_contents new; active = [] })
   first_paired = record {
     places = none_added (length (first_contents old)) (units_in old) (first_length old.areas);
@@ -100,21 +105,21 @@ module _ (pairing : Pairing) (old new : Program) (premises : Premises pairing ol
           blocks_pass old room proc.body,
           blocks_pass new room' proc'.body,
           λ x s s' p l. subst (λ b. Alike pairing old new budget h Same (block old (bodies old room) proc.body s) (block new (bodies new room') b s')) (sym x.1.1.body)
-              ((block_sim pairing old new premises (Rel pairing old new premises budget counts) (closed pairing old new premises budget counts) h (bodies old room) (bodies new room') (bodies_rel room room' (counts.less room room' q)) 0 true proc.body).2 (x.1.1.covered, (premises.lawful.procedures number proc x.1.0).body) s s' p l),
+              ((block_sim pairing old new premises (Rel pairing old new premises budget counts) (closed pairing old new premises budget counts) h (bodies old room) (bodies new room') (bodies_rel room room' (counts.less room room' q)) (pairing.swap (Some number)) (λ of s e. absurd (swap_of_none (pairing.swap (Some number)) (number_of of) s (none (Some number)) e)) (λ depth inside target t s e. absurd (swap_of_none (pairing.swap (Some number)) (number_of target) s (none (Some number)) e)) 0 true proc.body).2 (x.1.1.covered, (premises.lawful.procedures number proc x.1.0).body) s s' p l),
         ))
 
-    pub blocks_keep : (room room' : ℕ) → counts.Room room room' → (depth : ℕ) (inside : Bool) (b : Block) → CoversBlock pairing b → is_block old depth inside b ≡ true → Keeps pairing old new budget Same (block old (bodies old room) b) (block new (bodies new room') (renamed_block pairing b))
+    pub blocks_keep : (room room' : ℕ) → counts.Room room room' → (depth : ℕ) (inside : Bool) (b : Block) → CoversBlock pairing b → is_block old depth inside b ≡ true → Keeps pairing old new budget Same (block old (bodies old room) b) (block new (bodies new room') (renamed_block pairing None b))
     blocks_keep room room' q depth inside b c w h s s' p l =
-        (block_sim pairing old new premises (Rel pairing old new premises budget counts) (closed pairing old new premises budget counts) h (bodies old room) (bodies new room') (bodies_rel room room' q) depth inside b).2 (c, w) s s' p l
+        (block_sim pairing old new premises (Rel pairing old new premises budget counts) (closed pairing old new premises budget counts) h (bodies old room) (bodies new room') (bodies_rel room room' q) None (λ of s e. absurd (cc e)) (λ depth inside target t s e. absurd (cc e)) depth inside b).2 (c, w) s s' p l
 
-    pub values_keep : (room room' : ℕ) → counts.Room room room' → (t : Term) → CoversTerm pairing t → has_sort (sort_of old t) ≡ true → Keeps pairing old new budget Same (value_of old (bodies old room) t) (value_of new (bodies new room') (renamed_term pairing t))
+    pub values_keep : (room room' : ℕ) → counts.Room room room' → (t : Term) → CoversTerm pairing t → has_sort (sort_of old t) ≡ true → Keeps pairing old new budget Same (value_of old (bodies old room) t) (value_of new (bodies new room') (renamed_term pairing None t))
     values_keep room room' q t c w h s s' p l =
-        (value_sim pairing old new premises (Rel pairing old new premises budget counts) (closed pairing old new premises budget counts) h (bodies old room) (bodies new room') (bodies_rel room room' q) t).2 (c, some_has (sort_of old t) w) s s' p l
+        (value_sim pairing old new premises (Rel pairing old new premises budget counts) (closed pairing old new premises budget counts) h (bodies old room) (bodies new room') (bodies_rel room room' q) None (λ of s e. absurd (cc e)) t).2 (c, some_has (sort_of old t) w) s s' p l
 
     main_keeps : (room room' : ℕ) → counts.Room room room' → (input : List ℕ) (n n' : ℕ) → budget.Left n n' →
         Alike pairing old new budget 0 Same (block old (bodies old room) old.main (start old input n)) (block new (bodies new room') new.main (start new input n'))
     main_keeps room room' q input n n' l =
-        subst (λ b. Alike pairing old new budget 0 Same (block old (bodies old room) old.main (start old input n)) (block new (bodies new room') b (start new input n'))) (sym premises.main)
+        subst (λ b. Alike pairing old new budget 0 Same (block old (bodies old room) old.main (start old input n)) (block new (bodies new room') b (start new input n'))) (sym (premises.main ∙ ap (λ o. renamed_block pairing o old.main) (none None)))
         (blocks_keep room room' q 0 false old.main premises.covered premises.lawful.statements 0 (start old input n) (start new input n') (start_paired input n n') l)
 
   -- ---- runs
@@ -178,20 +183,20 @@ module _ (pairing : Pairing) (old new : Program) (premises : Premises pairing ol
         (main_keeps no_more no_more_counts (factor * n) n (grows factor n (factor * n) h refl) input (factor * n) n (grows factor n (factor * n) h refl)),
   )
 
-  pub blocks_keep_within : (factor : ℕ) → 1 ≤ factor → (room : ℕ) (depth : ℕ) (inside : Bool) (b : Block) → CoversBlock pairing b → is_block old depth inside b ≡ true → KeepsWithin pairing old new factor Same (block old (bodies old room) b) (block new (bodies new room) (renamed_block pairing b))
+  pub blocks_keep_within : (factor : ℕ) → 1 ≤ factor → (room : ℕ) (depth : ℕ) (inside : Bool) (b : Block) → CoversBlock pairing b → is_block old depth inside b ≡ true → KeepsWithin pairing old new factor Same (block old (bodies old room) b) (block new (bodies new room) (renamed_block pairing None b))
   blocks_keep_within factor h room depth inside b c w = record {
     forth = blocks_keep (so_many factor) (so_many_counts factor h) room room (at_most room) depth inside b c w;
     back = blocks_keep no_more no_more_counts room room (at_most room) depth inside b c w;
   }
 
-  pub values_keep_within : (factor : ℕ) → 1 ≤ factor → (room : ℕ) (t : Term) → CoversTerm pairing t → has_sort (sort_of old t) ≡ true → KeepsWithin pairing old new factor Same (value_of old (bodies old room) t) (value_of new (bodies new room) (renamed_term pairing t))
+  pub values_keep_within : (factor : ℕ) → 1 ≤ factor → (room : ℕ) (t : Term) → CoversTerm pairing t → has_sort (sort_of old t) ≡ true → KeepsWithin pairing old new factor Same (value_of old (bodies old room) t) (value_of new (bodies new room) (renamed_term pairing None t))
   values_keep_within factor h room t c w = record {
     forth = values_keep (so_many factor) (so_many_counts factor h) room room (at_most room) t c w;
     back = values_keep no_more no_more_counts room room (at_most room) t c w;
   }
 
-  pub blocks_same : (room : ℕ) (depth : ℕ) (inside : Bool) (b : Block) → CoversBlock pairing b → is_block old depth inside b ≡ true → Keeps pairing old new equal_steps Same (block old (bodies old room) b) (block new (bodies new room) (renamed_block pairing b))
+  pub blocks_same : (room : ℕ) (depth : ℕ) (inside : Bool) (b : Block) → CoversBlock pairing b → is_block old depth inside b ≡ true → Keeps pairing old new equal_steps Same (block old (bodies old room) b) (block new (bodies new room) (renamed_block pairing None b))
   blocks_same room depth inside b c w = blocks_keep equal_steps equal_counts room room refl depth inside b c w
 
-  pub values_same : (room : ℕ) (t : Term) → CoversTerm pairing t → has_sort (sort_of old t) ≡ true → Keeps pairing old new equal_steps Same (value_of old (bodies old room) t) (value_of new (bodies new room) (renamed_term pairing t))
+  pub values_same : (room : ℕ) (t : Term) → CoversTerm pairing t → has_sort (sort_of old t) ≡ true → Keeps pairing old new equal_steps Same (value_of old (bodies old room) t) (value_of new (bodies new room) (renamed_term pairing None t))
   values_same room t c w = values_keep equal_steps equal_counts room room refl t c w

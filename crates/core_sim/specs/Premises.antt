@@ -9,7 +9,8 @@ use Rattle.core_prog.specs.declared.storage.Home.TheVariants as home
 use Rattle.core_prog.specs.declared.storage.Variable.{Variable}
 use Rattle.core_prog.specs.Programs.{Program, Procedure}
 use Rattle.core_prog.specs.Lawful.{IsLawful}
-use Rattle.core_sim.specs.Pairings.{Pairing, partner, IsPaired}
+use Rattle.core_sim.specs.Pairings.{Pairing, Swap, partner, IsPaired}
+use Rattle.core_sim.specs.Swaps.{IsSwap}
 use Rattle.core_sim.specs.Renaming.{renamed_block}
 use Rattle.core_sim.specs.Covering.{CoversBlock}
 use Rattle.core_sim.specs.Units.{SameUnit, is_emptied, first_contents}
@@ -51,12 +52,12 @@ module _ (pairing : Pairing) where
     pub bounds : CoversDimensions before.dimensions
     pub home : SameHome before.home after.home
 
-  pub record SameProcedure (before after : Procedure) : Type 0 where
+  pub record SameProcedure (number : ℕ) (before after : Procedure) : Type 0 where
     pub dummies : after.dummies ≡ map (partner pairing.variable) before.dummies
     pub dummies_paired : ArePaired before.dummies
     pub result : after.result ≡ option_map (partner pairing.variable) before.result
     pub result_paired : CoversResult before.result
-    pub body : after.body ≡ renamed_block pairing before.body
+    pub body : after.body ≡ renamed_block pairing (pairing.swap (Some number)) before.body
     pub covered : CoversBlock pairing before.body
 
 -- both are there, and are related
@@ -74,9 +75,10 @@ pub record SameStorage (pairing : Pairing) (old new : Program) : Type 0 where
 pub record Premises (pairing : Pairing) (old new : Program) : Type 0 where
   pub lawful : IsLawful old
   pub lawful_new : IsLawful new
-  pub main : new.main ≡ renamed_block pairing old.main
+  pub main : new.main ≡ renamed_block pairing (pairing.swap None) old.main
   pub covered : CoversBlock pairing old.main
-  pub procedures : (number : ℕ) → IsPaired pairing.procedure number → Both (SameProcedure pairing) (slice_get old.procedures number) (slice_get new.procedures (partner pairing.procedure number))
+  pub procedures : (number : ℕ) → IsPaired pairing.procedure number → Both (SameProcedure pairing number) (slice_get old.procedures number) (slice_get new.procedures (partner pairing.procedure number))
   pub one_procedure : (number other both : ℕ) → pairing.procedure number ≡ Some both → pairing.procedure other ≡ Some both → number ≡ other
   pub variables : (number : ℕ) → IsPaired pairing.variable number → Both (SameVariable pairing) (slice_get old.variables number) (slice_get new.variables (partner pairing.variable number))
   pub storage : SameStorage pairing old new
+  pub swaps : (unit : Option ℕ) (s : Swap) → pairing.swap unit ≡ Some s → IsSwap pairing old new s

@@ -1,16 +1,45 @@
--- Trees with each variable and procedure replaced by its partner, and each token by that which stands for it (this project's own).
+-- Trees with each variable and procedure replaced by its partner, each token by that which stands for it, and a swapped variable by calls (this
+-- project's own).
+use Rattle.std.specs.Prelude.{ℕ, nat_eq, if◌then◌else◌, Option, Some, None}
+use Rattle.core_prog.specs.declared.site.Site.{Site}
 use Rattle.core_prog.specs.Terms.{Term, literal, paren, unary, binary, variable, constant, intrinsic, call, Terms, none, more, Designator, designator, Named, named, Section, no_section, section, Bound, no_bound, bound, Passed, no_passed, by_value, alone, to_end, constants}
 use Rattle.core_prog.specs.Actions as act
-use Rattle.core_sim.specs.Pairings.{Pairing, partner}
+use Rattle.core_sim.specs.Pairings.{Pairing, Swap, partner}
 
-module _ (pairing : Pairing) where
+abbrev pub number_of : Designator → ℕ
+number_of (designator at number subscripts range) = number
+
+abbrev pub site_of : Designator → Site
+site_of (designator at number subscripts range) = at
+
+-- the swap of a variable
+abbrev pub swap_of : Option Swap → ℕ → Option Swap
+swap_of None number = None
+swap_of (Some s) number = if nat_eq s.variable number then Some s else None
+
+-- a read of a variable, or a call of the function in its place
+abbrev pub read_as : Option Swap → Site → Designator → Term
+read_as None at of = variable of
+read_as (Some s) at of = call at s.getter no_passed
+
+-- a variable alone as an actual argument goes by reference, a call is a value
+abbrev pub passed_as : Option Swap → Site → Designator → Passed
+passed_as None at of = alone of no_passed
+passed_as (Some s) at of = by_value (call at s.getter no_passed) no_passed
+
+-- an assignment, or a call of the subroutine with the right side as actual argument
+abbrev pub assigned_as : Option Swap → Site → Designator → Term → Passed → act.Action
+assigned_as None at of term args = act.assign of term
+assigned_as (Some s) at of term args = act.call at s.setter args
+
+module _ (pairing : Pairing) (swap : Option Swap) where
   abbrev mutual
     pub renamed_term : Term → Term
     renamed_term (literal v) = literal v
     renamed_term (paren inner) = paren (renamed_term inner)
     renamed_term (unary at operator arg) = unary (pairing.site at) operator (renamed_term arg)
     renamed_term (binary at operator left right) = binary (pairing.site at) operator (renamed_term left) (renamed_term right)
-    renamed_term (variable of) = variable (renamed_designator of)
+    renamed_term (variable of) = read_as (swap_of swap (number_of of)) (pairing.site (site_of of)) (renamed_designator of)
     renamed_term (constant of) = constant (renamed_named of)
     renamed_term (intrinsic at function args) = intrinsic (pairing.site at) function (renamed_terms args)
     renamed_term (call at number args) = call (pairing.site at) (partner pairing.procedure number) (renamed_passed args)
@@ -41,6 +70,11 @@ module _ (pairing : Pairing) where
     renamed_passed (to_end of rest) = to_end (renamed_designator of) (renamed_passed rest)
     renamed_passed (constants of rest) = constants (renamed_named of) (renamed_passed rest)
 
+  -- a right side as an actual argument
+  abbrev pub passed_of : Term → Passed
+  passed_of (variable of) = passed_as (swap_of swap (number_of of)) (pairing.site (site_of of)) (renamed_designator of)
+  passed_of other = by_value (renamed_term other) no_passed
+
   abbrev pub renamed_written : act.Written → act.Written
   renamed_written act.no_written = act.no_written
   renamed_written (act.scalar term rest) = act.scalar (renamed_term term) (renamed_written rest)
@@ -53,7 +87,8 @@ module _ (pairing : Pairing) where
   renamed_wanted (act.each at number rest) = act.each (pairing.site at) (partner pairing.variable number) (renamed_wanted rest)
 
   abbrev pub renamed_action : act.Action → act.Action
-  renamed_action (act.assign target term) = act.assign (renamed_designator target) (renamed_term term)
+  renamed_action (act.assign target term) =
+      assigned_as (swap_of swap (number_of target)) (pairing.site (site_of target)) (renamed_designator target) (renamed_term term) (passed_of term)
   renamed_action (act.fill number term) = act.fill (partner pairing.variable number) (renamed_term term)
   renamed_action (act.call at number args) = act.call (pairing.site at) (partner pairing.procedure number) (renamed_passed args)
   renamed_action (act.exit depth) = act.exit depth
