@@ -11,3 +11,5 @@ pub mod Stepping
 pub mod Runs
 mod Example
 pub mod Typed
+pub mod Doing
+pub mod Copying

@@ -6,3 +6,4 @@ pub mod Swaps
 pub mod Premises
 pub mod Paired
 pub mod Keeping
+pub mod Copying
