@@ -73,6 +73,16 @@ not_emptied program lawful number at h =
     (beyond area.start area.size (units_in program) at
     (starts_below area.start area.size (sum_by (λ (a : Area). a.size) (take k program.areas)) (units_in program) (lawful.areas k area e).begins (area_end program.areas k area e)) h))
 
+pub below_or : (i h : ℕ) → (i < h) ⊎ (h ≤ i)
+below_or zero zero = inr (omega arith)
+below_or zero (suc h) = inl (omega arith)
+below_or (suc i) zero = inr (omega arith)
+below_or (suc i) (suc h) = raised i h (below_or i h)
+  where
+    raised : (i h : ℕ) → (i < h) ⊎ (h ≤ i) → (suc i < suc h) ⊎ (suc h ≤ suc i)
+    raised i h (inl q) = inl (omega arith)
+    raised i h (inr q) = inr (omega arith)
+
 module _ (pairing : Pairing) (old new : Program) (premises : Premises pairing old new) where
   abbrev pub ArgumentSame : Argument → Argument → Type 0
   ArgumentSame (units first n unit) (units first' n' unit') = (n' ≡ n) × (unit' ≡ unit) × Near pairing old new n first first'
@@ -151,16 +161,6 @@ module _ (pairing : Pairing) (old new : Program) (premises : Premises pairing ol
 
   all_below : (at all i : ℕ) → at ≡ all + i → all ≤ at
   all_below at all i e = omega arith
-
-  below_or : (i h : ℕ) → (i < h) ⊎ (h ≤ i)
-  below_or zero zero = inr (omega arith)
-  below_or zero (suc h) = inl (omega arith)
-  below_or (suc i) zero = inr (omega arith)
-  below_or (suc i) (suc h) = raised i h (below_or i h)
-    where
-      raised : (i h : ℕ) → (i < h) ⊎ (h ≤ i) → (suc i < suc h) ⊎ (suc h ≤ suc i)
-      raised i h (inl q) = inl (omega arith)
-      raised i h (inr q) = inr (omega arith)
 
   prepared_contents : (number h : ℕ) (m m' : Memory) (cs : List Content) → IsPaired pairing.procedure number → PairedMemory pairing old new h m m' → (at at' : ℕ) → Meets pairing old new at at' →
       slice_get (emptied number old.areas m.cells ++ cs) at ≡ slice_get (emptied (partner pairing.procedure number) new.areas m'.cells ++ cs) at'

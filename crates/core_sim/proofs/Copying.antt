@@ -11,7 +11,7 @@ use Rattle.core_prog.specs.Holdings.{holding, procedure}
 use Rattle.core_prog.specs.Entries.{Argument, not_active, entered, left, result_at}
 use Rattle.core_prog.specs.Terms.{variable, none, designator, no_section}
 use Rattle.core_prog.specs.States.{State, M, Way, GoOn, Exit, Cycle, Return, onward, ◌>>=◌, ◌>>◌, pure, asks, puts, remembers}
-use Rattle.core_prog.specs.Values.{called, entering, leaving, value_of, place_at}
+use Rattle.core_prog.specs.Values.{read_of, called, entering, leaving, value_of, place_at}
 use Rattle.core_prog.specs.Statements.{block}
 use Rattle.core_prog.specs.Runs.{bodies}
 use Rattle.core_sim.specs.Swaps.{copying}
@@ -85,3 +85,9 @@ copy_calls program room at number args m0 m1 c h =
 pub reads_take_one : (program : Program) (body : ℕ → M Way) (at : Site) (from : ℕ) (m : Memory) (h : Holding) → holding program from m ≡ Ok h →
     Does 1 (Is m) (value_of program body (variable (designator at from none no_section))) (λ v m'. (read_at at (whole_of h) m ≡ Ok v) × (m' ≡ m)) (λ e. read_at at (whole_of h) m ≡ Err e)
 reads_take_one program body at from m h e = reads_in program (λ x. read_at at (whole_of h) m ≡ Err x) body at from m h e (λ x q. q)
+
+-- after the step of a read
+pub read_of_does : (program : Program) (body : ℕ → M Way) (at : Site) (from : ℕ) (m : Memory) (h : Holding) → holding program from m ≡ Ok h →
+    Does 0 (Is m) (read_of program body (designator at from none no_section)) (λ v m'. (read_at at (whole_of h) m ≡ Ok v) × (m' ≡ m)) (λ e. read_at at (whole_of h) m ≡ Err e)
+read_of_does program body at from m h e =
+    asks_then (λ x. read_at at (whole_of h) m ≡ Err x) 0 m (λ v m'. (read_at at (whole_of h) m ≡ Ok v) × (m' ≡ m)) (holding program from) h _ e (asked_last (λ x. read_at at (whole_of h) m ≡ Err x) m (read_at at (whole_of h)) (λ x q. q))

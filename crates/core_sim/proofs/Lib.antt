@@ -13,3 +13,6 @@ mod Example
 pub mod Typed
 pub mod Doing
 pub mod Copying
+pub mod Swapping
+pub mod Spending
+pub mod Reading

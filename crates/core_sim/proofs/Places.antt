@@ -112,7 +112,7 @@ module _ (pairing : Pairing) (old new : Program) (premises : Premises pairing ol
         active = paired.active;
       })
 
-  or_same : {A : Type 0} (fault : FaultCode) (at at' : Site) (o o' : Option A) → o ≡ o' → Answers {A = A} {B = A} Same (or_end (Faulted fault at) o) (or_end (Faulted fault at') o')
+  pub or_same : {A : Type 0} (fault : FaultCode) (at at' : Site) (o o' : Option A) → o ≡ o' → Answers {A = A} {B = A} Same (or_end (Faulted fault at) o) (or_end (Faulted fault at') o')
   or_same fault at at' None None e = refl
   or_same fault at at' None (Some b) e = absurd (cc (e))
   or_same fault at at' (Some a) None e = absurd (cc (e))

@@ -137,7 +137,7 @@ module _ (pairing : Pairing) (old new : Program) (premises : Premises pairing ol
       by_ran (Went a s) (Went b s') e = same_result input outcome.Stop outcome.Stop s s' refl e.1.paired.output e.1.paired.input
       by_ran (Went a s) (Ended x s') e = absurd e.may_be
       by_ran (Ended x s) (Went b s') e = absurd e.may_be
-      by_ran (Ended x s) (Ended x' s') (inl e) = same_result input (outcome_of x) (outcome_of x') s s' e.outcome e.paired.output e.paired.input
+      by_ran (Ended x s) (Ended x' s') (inl e) = same_result input (outcome_of x) (outcome_of x') s s' e.outcome e.output e.input
       by_ran (Ended x s) (Ended x' s') (inr (inl e)) = absurd e.may_be
       by_ran (Ended x s) (Ended x' s') (inr (inr e)) = absurd e.may_be
 
@@ -156,21 +156,24 @@ module _ (pairing : Pairing) (old new : Program) (premises : Premises pairing ol
   end_goes_on input (outcome.Fault code) o' s s' e f g = sym (same_result input (outcome.Fault code) o' s s' e f g)
   end_goes_on input outcome.Spent o' s s' e f g = ([], sym f ∙ sym (append-nil s.output))
 
-  forth_on : (factor : ℕ) (input : List ℕ) (r r' : Ran Way) → Alike pairing old new (so_many factor) 0 Same r r' → GoesOn (result_of input r) (result_of input r')
+  forth_on : (factor : ℕ) (input : List ℕ) (r r' : Ran Way) → Alike pairing old new (so_many ⊥ factor 0) 0 Same r r' → GoesOn (result_of input r) (result_of input r')
   forth_on factor input (Went a s) (Went b s') e = end_goes_on input outcome.Stop outcome.Stop s s' refl e.1.paired.output e.1.paired.input
   forth_on factor input (Went a s) (Ended x s') e = absurd e.may_be
   forth_on factor input (Ended x s) (Went b s') e = cut_goes_on input x s (result_of input (Went b s')) e.cut e.front
-  forth_on factor input (Ended x s) (Ended x' s') (inl e) = end_goes_on input (outcome_of x) (outcome_of x') s s' e.outcome e.paired.output e.paired.input
+  forth_on factor input (Ended x s) (Ended x' s') (inl e) = end_goes_on input (outcome_of x) (outcome_of x') s s' e.outcome e.output e.input
   forth_on factor input (Ended x s) (Ended x' s') (inr (inl e)) = cut_goes_on input x s (result_of input (Ended x' s')) e.cut e.front
   forth_on factor input (Ended x s) (Ended x' s') (inr (inr e)) = absurd e.may_be
 
-  back_on : (input : List ℕ) (r r' : Ran Way) → Alike pairing old new no_more 0 Same r r' → GoesOn (result_of input r') (result_of input r)
+  back_on : (input : List ℕ) (r r' : Ran Way) → Alike pairing old new (no_more ⊥) 0 Same r r' → GoesOn (result_of input r') (result_of input r)
   back_on input (Went a s) (Went b s') e = end_goes_on input outcome.Stop outcome.Stop s' s refl (sym e.1.paired.output) (sym e.1.paired.input)
   back_on input (Went a s) (Ended x s') e = cut_goes_on input x s' (result_of input (Went a s)) e.cut e.front
   back_on input (Ended x s) (Went b s') e = absurd e.may_be
-  back_on input (Ended x s) (Ended x' s') (inl e) = end_goes_on input (outcome_of x') (outcome_of x) s' s (sym e.outcome) (sym e.paired.output) (sym e.paired.input)
+  back_on input (Ended x s) (Ended x' s') (inl e) = end_goes_on input (outcome_of x') (outcome_of x) s' s (sym e.outcome) (sym e.output) (sym e.input)
   back_on input (Ended x s) (Ended x' s') (inr (inl e)) = absurd e.may_be
   back_on input (Ended x s) (Ended x' s') (inr (inr e)) = cut_goes_on input x' s' (result_of input (Ended x s)) e.cut e.front
+
+  none_spare : (n : ℕ) → n + 0 ≤ n
+  none_spare n = omega arith
 
   at_most : (n : ℕ) → n ≤ n
   at_most n = omega arith
@@ -178,21 +181,21 @@ module _ (pairing : Pairing) (old new : Program) (premises : Premises pairing ol
   pub alike_within : (factor : ℕ) → 1 ≤ factor → AlikeWithin factor old new
   alike_within factor h input n = (
     forth_on factor input (block old (bodies old n) old.main (start old input n)) (block new (bodies new (factor * n)) new.main (start new input (factor * n)))
-        (main_keeps (so_many factor) (so_many_counts factor h) n (factor * n) (grows factor n (factor * n) h refl) input n (factor * n) (at_most (factor * n))),
+        (main_keeps (so_many ⊥ factor 0) (so_many_counts ⊥ factor 0 h) n (factor * n) (grows factor n (factor * n) h refl) input n (factor * n) (none_spare (factor * n))),
     back_on input (block old (bodies old (factor * n)) old.main (start old input (factor * n))) (block new (bodies new n) new.main (start new input n))
-        (main_keeps no_more no_more_counts (factor * n) n (grows factor n (factor * n) h refl) input (factor * n) n (grows factor n (factor * n) h refl)),
+        (main_keeps (no_more ⊥) (no_more_counts ⊥) (factor * n) n (grows factor n (factor * n) h refl) input (factor * n) n (grows factor n (factor * n) h refl)),
   )
 
-  pub blocks_keep_within : (factor : ℕ) → 1 ≤ factor → (room : ℕ) (depth : ℕ) (inside : Bool) (b : Block) → CoversBlock pairing b → is_block old depth inside b ≡ true → KeepsWithin pairing old new factor Same (block old (bodies old room) b) (block new (bodies new room) (renamed_block pairing None b))
+  pub blocks_keep_within : (factor : ℕ) → 1 ≤ factor → (room : ℕ) (depth : ℕ) (inside : Bool) (b : Block) → CoversBlock pairing b → is_block old depth inside b ≡ true → KeepsWithin pairing old new ⊥ factor Same (block old (bodies old room) b) (block new (bodies new room) (renamed_block pairing None b))
   blocks_keep_within factor h room depth inside b c w = record {
-    forth = blocks_keep (so_many factor) (so_many_counts factor h) room room (at_most room) depth inside b c w;
-    back = blocks_keep no_more no_more_counts room room (at_most room) depth inside b c w;
+    forth = blocks_keep (so_many ⊥ factor 0) (so_many_counts ⊥ factor 0 h) room room (at_most room) depth inside b c w;
+    back = blocks_keep (no_more ⊥) (no_more_counts ⊥) room room (at_most room) depth inside b c w;
   }
 
-  pub values_keep_within : (factor : ℕ) → 1 ≤ factor → (room : ℕ) (t : Term) → CoversTerm pairing t → has_sort (sort_of old t) ≡ true → KeepsWithin pairing old new factor Same (value_of old (bodies old room) t) (value_of new (bodies new room) (renamed_term pairing None t))
+  pub values_keep_within : (factor : ℕ) → 1 ≤ factor → (room : ℕ) (t : Term) → CoversTerm pairing t → has_sort (sort_of old t) ≡ true → KeepsWithin pairing old new ⊥ factor Same (value_of old (bodies old room) t) (value_of new (bodies new room) (renamed_term pairing None t))
   values_keep_within factor h room t c w = record {
-    forth = values_keep (so_many factor) (so_many_counts factor h) room room (at_most room) t c w;
-    back = values_keep no_more no_more_counts room room (at_most room) t c w;
+    forth = values_keep (so_many ⊥ factor 0) (so_many_counts ⊥ factor 0 h) room room (at_most room) t c w;
+    back = values_keep (no_more ⊥) (no_more_counts ⊥) room room (at_most room) t c w;
   }
 
   pub blocks_same : (room : ℕ) (depth : ℕ) (inside : Bool) (b : Block) → CoversBlock pairing b → is_block old depth inside b ≡ true → Keeps pairing old new equal_steps Same (block old (bodies old room) b) (block new (bodies new room) (renamed_block pairing None b))

@@ -58,8 +58,8 @@ more n n' h = omega arith
 pub too_many : (n : ℕ) → suc n ≤ zero → ⊥
 too_many n h = omega arith
 
-abbrev pub no_more_counts : Counts no_more
-no_more_counts = record {
+abbrev pub no_more_counts : (lose : Type 0) → Counts (no_more lose)
+no_more_counts lose = record {
   Room = λ n n'. n' ≤ n;
   step = λ n n' h. fewer n' n h;
   none_old = λ n h. too_many n h;
@@ -74,28 +74,28 @@ pub grows : (factor n m : ℕ) → 1 ≤ factor → m ≡ factor * n → n ≤ m
 grows zero n m h e = absurd (omega arith)
 grows (suc factor) n m h e = let f : m ≡ factor * n + n = e ∙ omega arith in omega arith
 
-pub spent_one : (factor n n' : ℕ) → 1 ≤ factor → factor * suc n ≤ suc n' → factor * n ≤ n'
-spent_one factor n n' h k = let e : factor * suc n ≡ factor * n + factor = omega arith in omega arith
+pub spent_one : (factor spare n n' : ℕ) → 1 ≤ factor → factor * suc n + spare ≤ suc n' → factor * n + spare ≤ n'
+spent_one factor spare n n' h k = let e : factor * suc n ≡ factor * n + factor = omega arith in omega arith
 
-pub not_without : (factor n : ℕ) → 1 ≤ factor → factor * suc n ≤ zero → ⊥
-not_without factor n h k = let e : factor * suc n ≡ factor * n + factor = omega arith in omega arith
+pub not_without : (factor spare n : ℕ) → 1 ≤ factor → factor * suc n + spare ≤ zero → ⊥
+not_without factor spare n h k = let e : factor * suc n ≡ factor * n + factor = omega arith in omega arith
 
-pub has_room : (factor n n' : ℕ) → 1 ≤ factor → factor * n ≤ n' → suc n ≤ suc n'
-has_room factor n n' h k = let g : n ≤ factor * n = grows factor n (factor * n) h refl in omega arith
+pub has_room : (factor spare n n' : ℕ) → 1 ≤ factor → factor * n + spare ≤ n' → suc n ≤ suc n'
+has_room factor spare n n' h k = let g : n ≤ factor * n = grows factor n (factor * n) h refl in omega arith
 
-abbrev pub so_many_counts : (factor : ℕ) → 1 ≤ factor → Counts (so_many factor)
-so_many_counts factor h = record {
+abbrev pub so_many_counts : (lose : Type 0) (factor spare : ℕ) → 1 ≤ factor → Counts (so_many lose factor spare)
+so_many_counts lose factor spare h = record {
   Room = λ n n'. n ≤ n';
-  step = λ n n' k. spent_one factor n n' h k;
+  step = λ n n' k. spent_one factor spare n n' h k;
   none_old = λ n k. tt;
-  none_new = λ n k. not_without factor n h k;
-  room = λ n n' k. has_room factor n n' h k;
+  none_new = λ n k. not_without factor spare n h k;
+  room = λ n n' k. has_room factor spare n n' h k;
   less = λ n n' k. fewer n n' k;
   room_old = λ n k. tt;
   room_new = λ n k. too_many n k;
 }
 
-front_same : (s : State) → IsFront s.output s.output
+pub front_same : (s : State) → IsFront s.output s.output
 front_same s = ([], sym (append-nil s.output))
 
 front_then : (a b c : List ℕ) → IsFront a b → IsFront b c → IsFront a c
@@ -141,7 +141,7 @@ module _ (pairing : Pairing) (old new : Program) (premises : Premises pairing ol
   told_alike h R (Ok a) (Ok b) e s s' p q = (e, record { paired = p; left = q })
   told_alike h R (Ok a) (Err e') e s s' p q = absurd e
   told_alike h R (Err e') (Ok b) e s s' p q = absurd e
-  told_alike h R (Err e') (Err e'') e s s' p q = inl (record { outcome = e; height = h; paired = p; left = q })
+  told_alike h R (Err e') (Err e'') e s s' p q = inl (record { outcome = e; output = p.output; input = p.input; paired = inr (h, record { paired = p; left = q }) })
 
   tells_rel : {X A B : Type 0} (h : ℕ) (R : A → B → Type 0) (r : Result A End) (r' : Result B End) → (X → Answers R r r') → Rel X h h A B R (told r) (told r')
   tells_rel h R r r' f = (passes_told r, passes_told r', λ x s s' p q. told_alike h R r r' (f x) s s' p q)
@@ -153,7 +153,7 @@ module _ (pairing : Pairing) (old new : Program) (premises : Premises pairing ol
   left_at a b c d e f l = subst (λ y. budget.Left c y) f (subst (λ x. budget.Left x b) e l)
 
   ticked_alike : (h n n' : ℕ) (s s' : State) → s.left ≡ n → s'.left ≡ n' → Paired pairing old new h s s' → budget.Left s.left s'.left → Alike pairing old new budget h (Any {A = Unit {0}} {B = Unit {0}}) (ticked n s) (ticked n' s')
-  ticked_alike h zero zero s s' e e' p q = inl (record { outcome = refl; height = h; paired = p; left = q })
+  ticked_alike h zero zero s s' e e' p q = inl (record { outcome = refl; output = p.output; input = p.input; paired = inr (h, record { paired = p; left = q }) })
   ticked_alike h zero (suc n') s s' e e' p q =
       record { may_be = counts.none_old n' (left_at s.left s'.left zero (suc n') e e' q); cut = refl; front = subst (λ o. IsFront s.output o) p.output (front_same s) }
   ticked_alike h (suc n) zero s s' e e' p q =
