@@ -4,20 +4,18 @@ use Rattle.std.specs.Prelude.{◌+◌, slice_get}
 use Rattle.std.specs.List.{filter, flat_map}
 use Rattle.std.specs.Option.{option_and_then, option_map_or}
 use Rattle.std.proofs.lemmas.List.{map-append}
-use Rattle.ftn_tree.specs.declared.mention.Mention.{Mention}
-use Rattle.ftn_tree.specs.declared.mention.Role.TheVariants as role
 use Rattle.ftn_tree.specs.declared.table.Extent.{Extent}
 use Rattle.ftn_tree.specs.declared.unit.FileTree.{FileTree}
 use Rattle.ftn_tree.specs.DeclarationFaults.{Finding, first_finding, declaration_rank, global_findings}
-use Rattle.ftn_tree.specs.Extents.{scoping, host_of, layer_at}
-use Rattle.ftn_tree.specs.GlobalNames.{Global, has_no_host, program_units, unit_global, unit_globals, is_common_at, block_names_at, block_names, unit_pairs}
+use Rattle.ftn_tree.specs.Extents.{scoping, host_of}
+use Rattle.ftn_tree.specs.GlobalNames.{Global, has_no_host, program_units, unit_global, unit_globals, block_names, unit_pairs}
 use Rattle.ftn_tree.specs.Projects.{AreTrees}
-use Rattle.ftn_tree.specs.Roles.{says}
-use Rattle.ftn_tree.specs.Sayings.{mentions_at}
-use Rattle.ftn_tree.specs.Scopes.{host_number, scope_number, all_statements}
-use Rattle.decl_table.specs.steps.GlobalLists.{outer_at, block_global, slash_at, blocks_at, unit_blocks}
+use Rattle.ftn_tree.specs.Scopes.{host_number, scope_number}
+use Rattle.decl_table.specs.steps.Blocks.{global_of, names_of}
+use Rattle.decl_table.specs.steps.GlobalLists.{outer_at}
 use Rattle.decl_table.specs.steps.Globals.{of_pair, first_of, block_pairs}
 use Rattle.decl_table.proofs.Entries.{flat_more}
+use Rattle.decl_table.proofs.FirstBlocks.{all_given}
 use Rattle.decl_table.proofs.OwnStatements.{number_of}
 use Rattle.decl_table.proofs.Said.{host_there}
 
@@ -47,40 +45,16 @@ outer_more files are old new n e host there is so made =
     ∙ sym (flat_more (λ e. if has_no_host files e then e ∷ [] else []) (scoping files) n e there)
     ∙ sym (filter_flat (has_no_host files) (take (n + 1) (scoping files)))
 
--- ---- blocks
-
-slashes : (files : List FileTree) (file : ℕ) (mentions : List Mention) → flat_map (slash_at files file) mentions ≡ map (block_global files file) (filter (λ m. says role.Slash m) mentions)
-slashes files file [] = refl
-slashes files file (m ∷ mentions) = by (says role.Slash m) (slashes files file mentions) where
-  by : (passes : Bool) → flat_map (slash_at files file) mentions ≡ map (block_global files file) (filter (λ m. says role.Slash m) mentions)
-      → (if passes then block_global files file m ∷ [] else []) ++ flat_map (slash_at files file) mentions
-      ≡ map (block_global files file) (if passes then m ∷ filter (λ m. says role.Slash m) mentions else filter (λ m. says role.Slash m) mentions)
-  by true rest = ap (λ (more : List Global). block_global files file m ∷ more) rest
-  by false rest = rest
-
-blocks_are : (files : List FileTree) (file statement : ℕ) → blocks_at files file statement ≡ block_names_at files file statement
-blocks_are files file statement = ap (λ (all : List Global). if is_common_at (layer_at files file statement) then all else []) (slashes files file (mentions_at files file statement))
-
-flat_same : {A : Type 0} (f g : A → List Global) → ((x : A) → f x ≡ g x) → (xs : List A) → flat_map f xs ≡ flat_map g xs
-flat_same f g same [] = refl
-flat_same f g same (x ∷ xs) = ap (λ (front : List Global). front ++ flat_map f xs) (same x) ∙ ap (λ (back : List Global). g x ++ back) (flat_same f g same xs)
-
-pub blocks_told : (files : List FileTree) (units : List Extent) → units ≡ program_units files → flat_map (unit_blocks files) units ≡ block_names files
-blocks_told files units is =
-    flat_same (unit_blocks files) (λ e. flat_map (block_names_at files e.file) (all_statements e))
-    (λ e. flat_same (blocks_at files e.file) (block_names_at files e.file) (λ statement. blocks_are files e.file statement) (all_statements e)) units
-    ∙ ap (flat_map (λ e. flat_map (block_names_at files e.file) (all_statements e))) is
-
 -- ---- both
 
 pub global_told : (files : List FileTree) (units one other : List Extent) (names known : List Global) (blocks listed : List Global) (first second next : Option Finding)
-    → units ≡ program_units files → one ≡ units → other ≡ units → names ≡ map (unit_global files) one → blocks ≡ flat_map (unit_blocks files) other → known ≡ names → listed ≡ blocks
+    → units ≡ program_units files → one ≡ units → other ≡ units → names ≡ map (unit_global files) one → blocks ≡ map (global_of files) (names_of files other) → known ≡ names → listed ≡ blocks
     → first ≡ first_of (unit_pairs [] known) → second ≡ first_of (block_pairs known listed)
     → ((xs ys : List Finding) → first ≡ first_finding declaration_rank xs → second ≡ first_finding declaration_rank ys → next ≡ first_finding declaration_rank (xs ++ ys))
     → next ≡ first_finding declaration_rank (global_findings files)
 global_told files units one other names known blocks listed first second next is a b made laid c d told more joined =
     let all : known ≡ unit_globals files = c ∙ made ∙ ap (map (unit_global files)) (a ∙ is) in
-    let lists : listed ≡ block_names files = d ∙ laid ∙ blocks_told files other (b ∙ is) in
+    let lists : listed ≡ block_names files = d ∙ laid ∙ all_given files other (b ∙ is) in
     joined (map of_pair (unit_pairs [] (unit_globals files))) (map of_pair (block_pairs (unit_globals files) (block_names files)))
     (told ∙ ap (λ globals. first_of (unit_pairs [] globals)) all)
     (more ∙ ap (λ globals. first_of (block_pairs globals listed)) all ∙ ap (λ names. first_of (block_pairs (unit_globals files) names)) lists)

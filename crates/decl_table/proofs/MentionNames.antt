@@ -135,7 +135,7 @@ in_tree tree (edition, text, short, (clean, is)) k statement there =
     by : {number : ℕ} (range : Range) → IsWordOf range.start (row_in (tokens_of text) range) number → IsSpelled (name_bytes tree.tokens number)
     by {number} range w =
         let at : slice_get (tokens_of text).items number ≡ Some w.here = row_at (tokens_of text).items range.start range.end number w.here w.from w.there in
-        subst (λ bytes. IsSpelled bytes) (sym (ap (λ tokens. name_bytes tokens number) is.tokens_are ∙ token_value (tokens_of text) number w.here at))
+        subst IsSpelled (sym (ap (λ tokens. name_bytes tokens number) is.tokens_are ∙ token_value (tokens_of text) number w.here at))
         (word_is_name edition text clean number w.here at (kind_is w.here.kind w.here.value w.is_a_word))
 
 each_to : {A : Type 0} (P Q : A → Type 0) (xs : List A) → ((x : A) → P x → Q x) → Each P xs → Each Q xs

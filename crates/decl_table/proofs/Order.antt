@@ -11,11 +11,8 @@ use Rattle.ftn_tree.specs.Nesting.{Nested, held, spelled}
 use Rattle.ftn_tree.specs.NestFaults.{marks_of}
 use Rattle.ftn_tree.specs.Projects.{IsSomeTree}
 use Rattle.ftn_tree.specs.Extents.{extents_in, extents_from, extents}
+pub use Rattle.decl_table.specs.steps.Spelled.{Each}
 use Rattle.decl_table.proofs.Rising.{Beside, Rise, row_rises}
-
-abbrev pub Each : {A : Type 0} → (A → Type 0) → List A → Type 0
-Each P [] = Unit {0}
-Each P (x ∷ xs) = P x × Each P xs
 
 pub each_both : {A : Type 0} (P : A → Type 0) (xs ys : List A) → Each P xs → Each P ys → Each P (xs ++ ys)
 each_both P [] ys one two = two

@@ -24,14 +24,9 @@ use Rattle.decl_table.specs.steps.Seen.{is_among}
 use Rattle.decl_table.specs.steps.Spelled.{Each, IsMaybe, IsSpelled, IsNamed}
 use Rattle.ftn_tree.specs.Projects.{AreTrees}
 use Rattle.decl_table.proofs.MentionNames.{mentions_named}
-use Rattle.decl_table.proofs.Order as order
 use Rattle.decl_table.proofs.OpeningNames.{opening_is}
 
 -- ---- lists of which each has that
-
-same_each : {A : Type 0} (P : A → Type 0) (xs : List A) → order.Each P xs → Each P xs
-same_each P [] each = tt
-same_each P (x ∷ xs) each = (each.0, same_each P xs each.1)
 
 module _ {A : Type 0} (P : A → Type 0) where
   both : (xs ys : List A) → Each P xs → Each P ys → Each P (xs ++ ys)
@@ -91,7 +86,7 @@ named_where f named (Some kind) = (named kind, tt)
 
 module _ (files : List FileTree) (are : AreTrees files) where
   spelled : (file statement : ℕ) → Each (λ (m : Mention). IsSpelled (name_at files file m.token)) (mentions_at files file statement)
-  spelled file statement = same_each _ (mentions_at files file statement) (mentions_named files are file statement)
+  spelled file statement = mentions_named files are file statement
 
   Named : ℕ → ℕ → Type 0
   Named file token = IsSpelled (name_at files file token)

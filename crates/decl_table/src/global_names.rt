@@ -1,22 +1,20 @@
 //! The global names of a project, in their order (Fortran 90, 11, 14.1.1).
 
 ghost use Rattle.std.specs.Prelude.{◌≡◌, ◌≤◌, ◌++◌, map, IfOk, OnOk};
-ghost use Rattle.std.specs.List.{flat_map};
 ghost use Rattle.ftn_tree.specs.DeclarationFaults as faults;
-ghost use Rattle.ftn_tree.specs.Extents.{layer_at};
 ghost use Rattle.ftn_tree.specs.GlobalNames as spec;
 ghost use Rattle.ftn_tree.specs.Projects.{AreTrees};
-ghost use Rattle.ftn_tree.specs.Scopes.{all_statements};
+ghost use Rattle.decl_table.specs.steps.Blocks as blocks;
 ghost use Rattle.decl_table.specs.steps.GlobalLists as steps;
 ghost use Rattle.decl_table.specs.steps.Located.{IsScoping};
 
+use crate::block_names::{TokenAt, push_names};
 use crate::finding::{Finding, earlier};
-use crate::forms::{first_token_at, form_at, name_at, name_token};
+use crate::forms::{first_token_at, name_at, name_token};
 use crate::globals::{Given, blocks_fault, units_fault};
-use crate::sayings::push_statement;
 use crate::scoping::{Scoping, unit_at};
 use ftn_base::NoMemory;
-use ftn_tree::{Extent, FileTree, Form, Mention, Role};
+use ftn_tree::{Extent, FileTree};
 use std::alloc::Global;
 
 /// Adds a scoping unit without a host.
@@ -82,92 +80,37 @@ fn unit_globals<'a>(
     Ok(found)
 }
 
-fn is_common(files: &[FileTree], file: u32, statement: u32) -> bool
-    ensures { result ≡ spec.is_common_at (layer_at files.now file statement) }
-{
-    matches!(form_at(files, file, statement), Some(Form::Common { .. }))
-}
-
-/// Adds a name that stands between slashes.
-fn push_slash<'a>(
+/// The names that stand at these tokens.
+fn names_at<'a>(
+    alloc: Global,
     files: &'a [FileTree],
-    file: u32,
-    mention: &Mention,
-    found: &mut Vec<Given<'a>>,
-) -> Result<(), NoMemory>
-    ensures { OnOk result (found.new.items ≡ found.old.items ++ steps.slash_at files.now file mention.now) }
+    tokens: &[TokenAt],
+) -> Result<Vec<Given<'a>>, NoMemory>
+    ensures { IfOk result (λ found. found.items ≡ map (blocks.global_of files.now) tokens.now) }
 {
-    if mention.says(Role::Slash) {
+    let mut found = Vec::new(alloc);
+    for at in tokens {
         found.push(Given {
-            name: name_at(files, file, mention.token),
+            name: name_at(files, at.file, at.token),
             has_name: true,
-            file,
-            token: mention.token,
+            file: at.file,
+            token: at.token,
         })?;
     }
-    Ok(())
+    Ok(found)
 }
 
-fn push_slashes<'a>(
-    files: &'a [FileTree],
-    file: u32,
-    mentions: &[Mention],
-    found: &mut Vec<Given<'a>>,
-) -> Result<(), NoMemory>
-    ensures { OnOk result (found.new.items ≡ found.old.items ++ flat_map (steps.slash_at files.now file) mentions.now) }
-{
-    for mention in mentions {
-        push_slash(files, file, mention, found)?;
-    }
-    Ok(())
-}
-
-/// Adds the names between slashes in a statement that is COMMON.
-fn push_blocks<'a>(
-    alloc: Global,
-    files: &'a [FileTree],
-    file: u32,
-    statement: u32,
-    found: &mut Vec<Given<'a>>,
-) -> Result<(), NoMemory>
-    ensures { OnOk result (found.new.items ≡ found.old.items ++ steps.blocks_at files.now file statement) }
-{
-    if !is_common(files, file, statement) {
-        return Ok(());
-    }
-    let mut mentions = Vec::new(alloc);
-    push_statement(alloc, files, file, statement, &mut mentions)?;
-    push_slashes(files, file, &mentions, found)
-}
-
-/// Adds those of a program unit.
-fn push_unit<'a>(
-    alloc: Global,
-    files: &'a [FileTree],
-    unit: Extent,
-    found: &mut Vec<Given<'a>>,
-) -> Result<(), NoMemory>
-    ensures { OnOk result (found.new.items ≡ found.old.items ++ flat_map (steps.blocks_at files.now unit.file) (all_statements unit)) }
-{
-    let opening = unit.opening as usize;
-    for at in opening..unit.ending as usize + 1 {
-        push_blocks(alloc, files, unit.file, at as u32, found)?;
-    }
-    Ok(())
-}
-
+/// The names of common blocks in these program units, wherever they are given.
 fn block_names<'a>(
     alloc: Global,
     files: &'a [FileTree],
     units: &[Extent],
 ) -> Result<Vec<Given<'a>>, NoMemory>
-    ensures { IfOk result (λ found. found.items ≡ flat_map (steps.unit_blocks files.now) units.now) }
+    ensures { IfOk result (λ found. found.items ≡ map (blocks.global_of files.now) (blocks.names_of files.now units.now)) }
 {
-    let mut found = Vec::new(alloc);
-    for unit in units {
-        push_unit(alloc, files, *unit, &mut found)?;
-    }
-    Ok(found)
+    let mut tokens = Vec::new(alloc);
+    push_names(alloc, files, units, &mut tokens)?;
+    names_at(alloc, files, &tokens)
 }
 
 /// The first global name that is declared twice.
