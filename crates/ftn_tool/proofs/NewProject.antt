@@ -1,6 +1,6 @@
 -- The project after its one file's text was replaced.
 use Rattle.std.proofs.Common.{◌≡◌, ℕ, Bool, true, false, cond, List, [], ◌∷◌, Option, None, Some, refl, sym, ap, ◌∙◌}
-use Rattle.std.specs.Prelude.{◌&&◌}
+use Rattle.std.proofs.lemmas.Bool.{and_from, and_parts}
 use Rattle.std.specs.Ordering.{is_lt}
 use Rattle.std.specs.FinMap.{slice_cmp-IsAntisymmetric, nat_cmp-IsAntisymmetric}
 use Rattle.std.specs.FinMap.Entries.{below_all, by_order, is_sorted}
@@ -11,18 +11,6 @@ use Rattle.std.specs.declared.cmp.Ordering.TheVariants.{Less, Equal, Greater}
 use Rattle.ftn_base.specs.Files.{File, IsInOrder, by_name, is_source, project, with_file}
 use Rattle.ftn_tool.specs.Verdicts.{sole}
 
-first_holds : (a b : Bool) → (a && b) ≡ true → a ≡ true
-first_holds true b e = refl
-first_holds false b e = absurd cc
-
-second_holds : (a b : Bool) → (a && b) ≡ true → b ≡ true
-second_holds true b e = e
-second_holds false b e = absurd cc
-
-both_hold : (a b : Bool) → a ≡ true → b ≡ true → (a && b) ≡ true
-both_hold true b e f = f
-both_hold false b e f = absurd cc
-
 is_less : (order : Ordering) → is_lt order ≡ true → order ≡ Less
 is_less Less e = refl
 is_less Equal e = absurd cc
@@ -32,28 +20,28 @@ is_less Greater e = absurd cc
 below_rest : (name : List ℕ) (file : File) (files : List File) → by_name name file.0 ≡ Less → below_all by_name file.0 files ≡ true → below_all by_name name files ≡ true
 below_rest name file [] less below = refl
 below_rest name file (next ∷ files) less below =
-    let further : by_name file.0 next.0 ≡ Less = is_less (by_name file.0 next.0) (first_holds _ _ below) in
-    both_hold _ _ (ap is_lt (nat_list_cmp_total.trans name file.0 next.0 less further)) (below_rest name file files less (second_holds _ _ below))
+    let further : by_name file.0 next.0 ≡ Less = is_less (by_name file.0 next.0) (and_parts _ _ below).0 in
+    and_from _ _ (ap is_lt (nat_list_cmp_total.trans name file.0 next.0 less further)) (below_rest name file files less (and_parts _ _ below).1)
 
 -- a file whose name is below those of a project's comes before them
 before_project : (name text : List ℕ) (files : List File) → below_all by_name name files ≡ true → with_file name text (project files) ≡ (name, text) ∷ project files
 before_project name text [] below = refl
 before_project name text (file ∷ files) below =
-    let less : by_name name file.0 ≡ Less = is_less (by_name name file.0) (first_holds _ _ below) in
+    let less : by_name name file.0 ≡ Less = is_less (by_name name file.0) (and_parts _ _ below).0 in
     elim (is_source file.0) as (λ (source : Bool). with_file name text (cond source (file ∷ project files) (project files)) ≡ (name, text) ∷ cond source (file ∷ project files) (project files)) [
       | true ↦ ap (λ (order : Ordering). by_order order ((name, text) ∷ file ∷ project files) ((file.0, text) ∷ project files) (file ∷ with_file name text (project files))) less
-      | false ↦ before_project name text files (second_holds _ _ below)
+      | false ↦ before_project name text files (and_parts _ _ below).1
     ]
 
 -- a project file that is put is put into the project
 pub project_put : (name text : List ℕ) (files : List File) → is_sorted by_name files ≡ true → is_source name ≡ true → project (with_file name text files) ≡ with_file name text (project files)
 project_put name text [] ordered source = ap (λ (b : Bool). cond b ((name, text) ∷ []) []) source
 project_put name text (file ∷ files) ordered source =
-    let below : below_all by_name file.0 files ≡ true = first_holds _ _ ordered in
-    let rest : project (with_file name text files) ≡ with_file name text (project files) = project_put name text files (second_holds _ _ ordered) source in
+    let below : below_all by_name file.0 files ≡ true = (and_parts _ _ ordered).0 in
+    let rest : project (with_file name text files) ≡ with_file name text (project files) = project_put name text files (and_parts _ _ ordered).1 source in
     elim (by_name name file.0) as (λ (order : Ordering). by_name name file.0 ≡ order → project (by_order order ((name, text) ∷ file ∷ files) ((file.0, text) ∷ files) (file ∷ with_file name text files)) ≡ with_file name text (project (file ∷ files))) [
       | Less ↦ λ less. ap (λ (b : Bool). cond b ((name, text) ∷ project (file ∷ files)) (project (file ∷ files))) source
-          ∙ sym (before_project name text (file ∷ files) (both_hold _ _ (ap is_lt less) (below_rest name file files less below)))
+          ∙ sym (before_project name text (file ∷ files) (and_from _ _ (ap is_lt less) (below_rest name file files less below)))
       | Equal ↦ λ same.
           let name_is : name ≡ file.0 = slice_cmp-IsAntisymmetric nat_cmp-IsAntisymmetric name file.0 same in
           let also : is_source file.0 ≡ true = ap is_source (sym name_is) ∙ source in

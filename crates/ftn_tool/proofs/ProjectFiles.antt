@@ -1,6 +1,7 @@
 -- Reading the listed files one by one gives the project's files.
 use Rattle.std.proofs.Common.{◌≡◌, ℕ, suc, ◌+◌, ◌≤◌, ◌<◌, Bool, true, false, cond, List, [], ◌∷◌, ◌++◌, length, map, take, drop, get_or, Option, None, Some, refl, sym, ap, ◌∙◌, subst, arith}
-use Rattle.std.specs.Prelude.{IfSome, Result, Ok, Err, IfOk, IfErr, Vec, ◌&&◌}
+use Rattle.std.proofs.lemmas.Bool.{and_parts}
+use Rattle.std.specs.Prelude.{IfSome, Result, Ok, Err, IfOk, IfErr, Vec}
 use Rattle.std.specs.List.{filter}
 use Rattle.std.proofs.lemmas.List.{append-nil, drop_more, length-map}
 use Rattle.std.specs.Option.{option_map}
@@ -35,14 +36,6 @@ fronts_found whole (file ∷ files) found =
       | false ↦ rest
     ]
 
-first_holds : (a b : Bool) → (a && b) ≡ true → a ≡ true
-first_holds true b e = refl
-first_holds false b e = absurd cc
-
-second_holds : (a b : Bool) → (a && b) ≡ true → b ≡ true
-second_holds true b e = e
-second_holds false b e = absurd cc
-
 -- a name that another is below does not tie with it
 apart : (order : Ordering) → is_lt order ≡ true → is_eq (ordering_reverse order) ≡ false
 apart Less e = refl
@@ -53,16 +46,16 @@ apart Greater e = absurd cc
 still_found : (file : File) (whole files : List File) → below_all by_name file.0 files ≡ true → AreFound whole files → AreFound (file ∷ whole) files
 still_found file whole [] below found = tt
 still_found file whole (other ∷ files) below found =
-    let less : is_lt (by_name file.0 other.0) ≡ true = first_holds _ _ below in
+    let less : is_lt (by_name file.0 other.0) ≡ true = (and_parts _ _ below).0 in
     let not_tied : eq_by_cmp by_name other.0 file.0 ≡ false = ap is_eq (nat_list_cmp_total.antisymm other.0 file.0) ∙ apart (by_name file.0 other.0) less in
-    (ap (λ (tied : Bool). cond tied (Some file.1) (text_of whole other.0)) not_tied ∙ found.0, still_found file whole files (second_holds _ _ below) found.1)
+    (ap (λ (tied : Bool). cond tied (Some file.1) (text_of whole other.0)) not_tied ∙ found.0, still_found file whole files (and_parts _ _ below).1 found.1)
 
 -- files in order are all found
 all_found : (files : List File) → is_sorted by_name files ≡ true → AreFound files files
 all_found [] ordered = tt
 all_found (file ∷ files) ordered =
     let itself : eq_by_cmp by_name file.0 file.0 ≡ true = ap is_eq (tied_itself nat_list_cmp_total file.0) in
-    (ap (λ (tied : Bool). cond tied (Some file.1) (text_of files file.0)) itself, still_found file files files (first_holds _ _ ordered) (all_found files (second_holds _ _ ordered)))
+    (ap (λ (tied : Bool). cond tied (Some file.1) (text_of files file.0)) itself, still_found file files files (and_parts _ _ ordered).0 (all_found files (and_parts _ _ ordered).1))
 
 -- what was found among the listed names is the project
 listed_fronts : (files : List File) (names : List (List ℕ)) → names ≡ names_of files → IsInOrder files → fronts files names ≡ map front_of (project files)

@@ -1,37 +1,26 @@
 -- Names that rise, and what sorting and dropping repeats leaves.
-use Rattle.std.proofs.Common.{◌≡◌, ℕ, suc, ◌+◌, ◌≤◌, ◌<◌, Bool, true, false, List, [], ◌∷◌, length, drop, get_or, Option, None, Some, refl, sym, ap, ◌∙◌, subst, arith}
+use Rattle.std.proofs.Common.{◌≡◌, ℕ, ◌+◌, ◌≤◌, ◌<◌, Bool, true, false, List, [], ◌∷◌, length, drop, get_or, Option, None, Some, refl, sym, ap, ◌∙◌, subst, arith}
+use Rattle.std.proofs.lemmas.Bool.{and_from, and_parts}
 use Rattle.std.specs.Prelude.{IfSome, IsTrue, ◌&&◌, nat_eq}
 use Rattle.std.specs.List.{Contains, dedup}
 use Rattle.std.specs.List.Sorted.{IsPermutation, IsSorted, IsStrictlySortedBy}
-use Rattle.std.specs.Ordering.{is_lt, nat_cmp}
-use Rattle.std.specs.Cmp.Lexicographic.{pointwise, slice_cmp, texts_ties}
+use Rattle.std.specs.Ordering.{is_lt}
+use Rattle.std.specs.Cmp.Lexicographic.{pointwise, texts_ties}
 use Rattle.std.proofs.lemmas.Cmp.{nat_list_cmp_total, nat_list_eq_equiv}
 use Rattle.std.proofs.lemmas.List.{drop_more, length-drop}
 use Rattle.std.proofs.lemmas.List.Kept.{Contains-dedup, Contains-from_dedup, IsStrictlySortedBy-dedup}
 use Rattle.std.proofs.lemmas.List.Sorted.{Contains-permutation, IsPermutation-sym}
 use Rattle.std.proofs.lemmas.Slice.Eq.{bytes_eq-Decides}
-use Rattle.std.specs.FinMap.Entries.{below_all, is_sorted}
+use Rattle.std.specs.FinMap.Entries.{is_sorted}
 use Rattle.ftn_base.specs.Files.{File, IsInOrder, by_name, names_of}
 use Rattle.ftn_tool.specs.Rising.{rising}
-
-first_holds : (a b : Bool) → (a && b) ≡ true → a ≡ true
-first_holds true b e = refl
-first_holds false b e = absurd cc
-
-second_holds : (a b : Bool) → (a && b) ≡ true → b ≡ true
-second_holds true b e = e
-second_holds false b e = absurd cc
-
-both_hold : (a b : Bool) → a ≡ true → b ≡ true → (a && b) ≡ true
-both_hold true b e f = f
-both_hold false b e f = absurd cc
 
 -- the names of files in order rise
 names_rise : (files : List File) → is_sorted by_name files ≡ true → rising (names_of files) ≡ true
 names_rise [] ordered = refl
 names_rise (file ∷ []) ordered = refl
 names_rise (file ∷ next ∷ files) ordered =
-    both_hold _ _ (first_holds _ _ (first_holds _ _ ordered)) (names_rise (next ∷ files) (second_holds _ _ ordered))
+    and_from _ _ (and_parts _ _ (and_parts _ _ ordered).0).0 (names_rise (next ∷ files) (and_parts _ _ ordered).1)
 
 -- told names are left as they are
 pub told_in_order : (told : Option (List File)) (names now : List (List ℕ)) → IfSome told (λ files. (names ≡ names_of files) × IsInOrder files) → (IsTrue (rising names) → now ≡ names)
@@ -74,7 +63,7 @@ strict_rises : (names : List (List ℕ)) → IsStrictlySortedBy by_name names �
 unfolding IsStrictlySortedBy
 strict_rises [] strict = refl
 strict_rises (name ∷ []) strict = refl
-strict_rises (name ∷ next ∷ names) strict = both_hold _ _ (ap is_lt strict.0.0) (strict_rises (next ∷ names) strict.1)
+strict_rises (name ∷ next ∷ names) strict = and_from _ _ (ap is_lt strict.0.0) (strict_rises (next ∷ names) strict.1)
 
 equal : (xs ys : List ℕ) → pointwise nat_eq xs ys ≡ true → xs ≡ ys
 equal xs ys e = (bytes_eq-Decides xs ys).0 e
