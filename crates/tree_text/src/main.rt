@@ -1,11 +1,15 @@
 //! `tree_text`: the tokens, statements and program units of a Fortran text on standard input, its names with what is said of them, its
-//! expressions with what their places want, or its first fault.
+//! expressions with what their places want, its scoping units and declared entities, or its first fault.
 //!
-//! What it shows is what the readers of `free_scan` and `unit_parse` gave; that it is printed rightly is shown by rows and not proved.
+//! What it shows is what `scan`, `parse` and `declare` gave; that it is printed rightly is shown by rows and not proved.
 #![tactic(auto)]
 
-ghost use Rattle.std.specs.Prelude.{◌<◌, ◌≤◌, ◌^◌, length};
+ghost use Rattle.std.specs.Prelude.{◌≡◌, ◌<◌, ◌≤◌, ◌^◌, ◌∷◌, [], length};
 ghost use Rattle.ftn_base.specs.Limits.{most_file_bytes};
+ghost use Rattle.ftn_base.specs.declared.name.Edition.TheVariants as editions;
+ghost use Rattle.ftn_tree.specs.Breaks.{breaches_of};
+ghost use Rattle.ftn_tree.specs.Projects.{AreTrees};
+ghost use Rattle.ftn_tree.specs.Reading.{tokens_of};
 
 mod actions;
 mod data;
@@ -14,12 +18,14 @@ mod expressions;
 mod headings;
 mod line;
 mod said;
+mod scopes;
 mod statements;
 mod tokens;
 mod units;
 
 use crate::line::{join, put, put_place};
 use crate::said::{put_expressions, put_mentions};
+use crate::scopes::put_scopes;
 use crate::statements::put_statements;
 use crate::tokens::put_tokens;
 use crate::units::put_units;
@@ -41,6 +47,7 @@ enum Shown {
     Units,
     Names,
     Expressions,
+    Scopes,
     Both,
 }
 
@@ -56,6 +63,8 @@ fn shown_by(word: &[u8]) -> Option<Shown> {
         Some(Shown::Names)
     } else if word == b"expressions".as_slice() {
         Some(Shown::Expressions)
+    } else if word == b"scopes".as_slice() {
+        Some(Shown::Scopes)
     } else {
         None
     }
@@ -107,7 +116,9 @@ fn put_shown(
         Shown::Names => put_mentions(alloc, out, tokens, statements),
         Shown::Expressions => put_expressions(alloc, out, tokens, statements),
         Shown::Units => put_units(alloc, out, tree, tree.units.as_slice(), 0),
-        Shown::Tokens | Shown::Statements => put_statements(alloc, out, tokens, statements),
+        Shown::Tokens | Shown::Statements | Shown::Scopes => put_statements(
+            alloc, out, tokens, statements,
+        ),
         Shown::Both => {
             put_statements(alloc, out, tokens, statements)?;
             put_units(alloc, out, tree, tree.units.as_slice(), 0)
@@ -120,9 +131,16 @@ fn put_tree(
     out: &mut Vec<u8>,
     tree: &FileTree,
     shown: Shown,
-) -> Result<Status, NoMemory> {
-    put_shown(alloc, out, tree, shown)?;
-    Ok(Status::Done)
+) -> Result<Status, NoMemory>
+    requires { AreTrees (tree.now ∷ []) }
+{
+    match shown {
+        Shown::Scopes => put_scopes(alloc, out, tree),
+        _ => {
+            put_shown(alloc, out, tree, shown)?;
+            Ok(Status::Done)
+        }
+    }
 }
 
 /// Adds the tree that these tokens have, or the line of their first fault.
@@ -135,6 +153,8 @@ fn put_parsed(
 ) -> Result<Status, NoMemory>
     requires short { length text.now ≤ most_file_bytes }
     requires few { length tokens.statements < 2 ^ 32 }
+    requires sound { breaches_of editions.F90 text.now ≡ [] }
+    requires read { tokens ≡ tokens_of text.now }
 {
     match parse(alloc, tokens) {
         Ok(tree) => put_tree(alloc, out, &tree, shown),
@@ -153,6 +173,8 @@ fn put_scanned(
 ) -> Result<Status, NoMemory>
     requires short { length text.now ≤ most_file_bytes }
     requires few { length tokens.statements < 2 ^ 32 }
+    requires sound { breaches_of editions.F90 text.now ≡ [] }
+    requires read { tokens ≡ tokens_of text.now }
 {
     match shown {
         Shown::Tokens => put_tokens(alloc, out, &tokens),
@@ -193,7 +215,7 @@ fn answer(rt: &HostRuntime) -> Result<Status, NoMemory> {
         None => {
             join(
                 &mut out,
-                b"one word at most: tokens, statements, units, names or expressions\n",
+                b"one word at most: tokens, statements, units, names, expressions or scopes\n",
             )?;
             Status::BadWords
         }
