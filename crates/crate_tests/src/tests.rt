@@ -9,6 +9,7 @@ mod item_rows;
 mod layout_given;
 mod layout_rows;
 mod modules;
+mod operations;
 mod plan_rows;
 mod texts;
 mod tie_rows;
