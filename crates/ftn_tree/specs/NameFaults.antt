@@ -3,7 +3,6 @@
 use Rattle.std.specs.Prelude.{ℕ, zero, suc, ◌-◌, Bool, false, not, ◌&&◌, ◌||◌, nat_eq, if◌then◌else◌, List, [], ◌∷◌, ◌++◌, map, length, slice_get, slice_index_or, Option, Some}
 use Rattle.std.specs.List.{filter, filter_map, find, flat_map, list_any, position}
 use Rattle.std.specs.Option.{is_none, option_map, option_map_or, option_and_then, option_or, unwrap_or}
-use Rattle.ftn_base.specs.Accessible.{once}
 use Rattle.ftn_base.specs.ModuleUses.{used_by}
 use Rattle.ftn_base.specs.declared.entity.Letter.{Letter}
 use Rattle.ftn_base.specs.declared.entity.Letter.TheVariants as letter
@@ -47,14 +46,13 @@ used_number files file use_statement = module_number files (name_at files file u
 abbrev pub module_uses : List FileTree → List (List ℕ)
 module_uses files = map (λ e. filter_map (used_number files e.file) (use_statements files e)) (module_numbered files)
 
--- the modules to which chains of at most so many uses lead from these. From one of n modules, n uses lead to all that any chain leads to
-abbrev pub reached : List (List ℕ) → ℕ → List ℕ → List ℕ
-reached uses zero from = from
-reached uses (suc count) from = reached uses count (once nat_eq (from ++ flat_map (used_by uses) from))
+-- a chain of at most so many uses leads from a module to another, or it is the same. Of n modules n uses lead as far as any number does
+abbrev pub leads : List (List ℕ) → ℕ → ℕ → ℕ → Bool
+leads uses zero first last = nat_eq first last
+leads uses (suc count) first last = nat_eq first last || list_any (λ next. leads uses count next last) (used_by uses first)
 
--- uses lead from a module to another, or it is the same
 abbrev pub leads_to : List (List ℕ) → ℕ → ℕ → Bool
-leads_to uses first last = list_any (nat_eq last) (reached uses (length uses) (first ∷ []))
+leads_to uses first last = leads uses (length uses) first last
 
 -- the project has no such module
 abbrev pub unknown_use : List FileTree → Extent → UseStatement → List Finding

@@ -10,14 +10,20 @@
 //! `ExecutableForms`); nesting (`Marks`, `Regions`, `Nesting`, `NestFaults`); files and projects (`FileFaults`, `ProjectFaults`,
 //! `ProjectLimits`); names and expressions of statements (`Roles`, `Expressions`, `PartMentions`, `Mentions`, `RowNames`, `Wants`);
 //! scoping units and declarations (`Extents`, `Scopes`, `ScopeLetters`, `Sayings`, `Exclusions`, `GlobalNames`, `DeclarationFaults`,
-//! `DeclaredEntities`); kinds of entities (`Kinds`); records and items of lists (`ListRecords`, `ListItems`).
+//! `DeclaredEntities`); kinds of entities (`Kinds`); records and items of lists (`ListRecords`, `ListItems`); what names denote
+//! (`Meanings`, `Bindings`, `NameFaults`); values, operators and intrinsic functions (`Sorts`, `Operations`, `Intrinsics`, `Arrays`);
+//! constants, shapes and initial values (`Declarations`, `KeyKinds`, `Evaluations`, `Circles`, `Constants`, `Shapes`, `Cases`,
+//! `ConstantFaults`, `Givens`, `EntityValues`); types (`Procedures`, `ExpressionTypes`, `Calls`, `DataTypes`, `TypeFaults`); the first fault of all
+//! these (`StageFaults`).
 //!
-//! That a text has a tree or a fault is shown by the crates that read. What names denote isn't said yet.
+//! That a text has a tree or a fault is shown by the crates that read, and what is declared by `decl_table`. No crate gives yet what
+//! names denote, nor values and types.
 #![tactic(auto)]
 
 mod around;
 mod expr;
 mod form;
+mod intrinsic;
 mod laws;
 mod lexeme;
 mod mark;
@@ -35,6 +41,7 @@ mod wants;
 
 pub use expr::{Expr, Part};
 pub use form::Form;
+pub use intrinsic::{Intrinsic, ValueFault};
 pub use laws::{names_are_those_of_tokens, operators_are_those_of_tokens};
 pub use lexeme::Lexeme;
 pub use mark::{Content, Mark, Region, Section, Title};
@@ -54,5 +61,5 @@ pub use table::{
 };
 pub use token::{Token, TokenKind, Tokens};
 pub use unit::{Arm, Block, FileTree, Statement, Unit};
-pub use value::{Kind, Value, Values};
+pub use value::{Given, Kind, Value, Values};
 pub use want::{Placed, Want};

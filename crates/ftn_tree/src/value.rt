@@ -2,7 +2,7 @@
 
 ghost use Rattle.std.specs.Prelude.{◌≡◌, IfOk};
 
-use ftn_base::{Bytes, NoMemory, Shape, Ty};
+use ftn_base::{Bytes, EntityId, NoMemory, Shape, Span, Ty};
 use sqlite_items::Items;
 use std::alloc::Global;
 
@@ -39,7 +39,22 @@ pub struct Kind {
     pub rank: u32,
 }
 
-/// What is known of the entities of a project as values. Each list has one entry for each entity, by its number.
+/// An initial value (5.1, 5.2.9, 14.7.4): what storage units of a variable hold before the run begins.
+#[derive(Drop)]
+pub struct Given {
+    /// The variable.
+    pub entity: EntityId,
+    /// The first of its own storage units that the value reaches, from 0.
+    pub first: u32,
+    /// How many elements have the value.
+    pub count: u32,
+    /// The value of each, a character value padded or cut to the element's length.
+    pub value: Value,
+    /// The name that says so.
+    pub span: Span,
+}
+
+/// What is known of the entities of a project as values. The first three lists have one entry for each entity, by its number.
 #[derive(Drop)]
 pub struct Values {
     /// The type and the bounds, where all bounds are constant.
@@ -48,4 +63,6 @@ pub struct Values {
     pub constants: Items<Option<Value>>,
     /// The type and the rank of each variable, constant, dummy argument and result, whether or not its bounds are constant.
     pub kinds: Items<Option<Kind>>,
+    /// The initial values that declarations and DATA give, in the order of statements.
+    pub given: Items<Given>,
 }
