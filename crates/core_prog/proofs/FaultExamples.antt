@@ -5,7 +5,7 @@ use Rattle.ftn_base.specs.declared.entity.Ty.TheVariants as type
 use Rattle.ftn_base.specs.declared.entity.Length.TheVariants.{Fixed}
 use Rattle.ftn_tree.specs.declared.value.Value.TheVariants as value
 use Rattle.ftn_tree.specs.declared.operator.Operator.TheVariants as op
-use Rattle.core_prog.specs.declared.expr.Intrinsic.TheVariants as function
+use Rattle.ftn_tree.specs.declared.intrinsic.Intrinsic.TheVariants as function
 use Rattle.core_prog.specs.declared.outcome.Outcome.TheVariants as outcome
 use Rattle.core_prog.specs.declared.outcome.FaultCode.TheVariants as code
 use Rattle.core_prog.specs.declared.storage.Content.TheVariants as content

@@ -9,7 +9,7 @@ use Rattle.ftn_base.specs.Arithmetic.{sum}
 use Rattle.ftn_tree.specs.declared.value.Value.TheVariants.{Whole}
 use Rattle.core_prog.specs.Operations.{as_whole, as_truth, whole_at}
 use Rattle.core_prog.specs.Contents.{units_of}
-use Rattle.core_prog.specs.Arrays.{axis_from, elements, element, part}
+use Rattle.ftn_tree.specs.Arrays.{axis_from, elements, element, part}
 use Rattle.core_prog.specs.Memory.{Place, Holding, element_at, place_of, read_at, in_bounds}
 use Rattle.core_prog.specs.Programs.{Program}
 use Rattle.core_prog.specs.Holdings.{holding}

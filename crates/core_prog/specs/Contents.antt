@@ -1,10 +1,11 @@
 -- What storage units hold, and values in them (Fortran 90, 14.6.3.1, 14.7, 7.5.1).
-use Rattle.std.specs.Prelude.{ℕ, ◌+◌, List, [], ◌∷◌, ◌++◌, map, length, take, drop, replicate, slice_set, Option, Some, None}
+use Rattle.std.specs.Prelude.{ℕ, ◌+◌, List, [], ◌∷◌, map, length, take, drop, slice_set, Option, Some, None}
 use Rattle.std.specs.Option.{option_map}
 use Rattle.ftn_base.specs.declared.entity.Ty.{Ty}
 use Rattle.ftn_base.specs.declared.entity.Ty.TheVariants.{Integer, Logical, Character}
 use Rattle.ftn_tree.specs.declared.value.Value.{Value}
 use Rattle.ftn_tree.specs.declared.value.Value.TheVariants as value
+use Rattle.ftn_tree.specs.Operations.{fitted}
 use Rattle.core_prog.specs.declared.storage.Content.{Content}
 use Rattle.core_prog.specs.declared.storage.Content.TheVariants.{Whole, Truth, Byte}
 
@@ -19,10 +20,6 @@ value_in Integer (Whole z ∷ contents) = Some (value.Whole z)
 value_in Logical (Truth truth ∷ contents) = Some (value.Truth truth)
 value_in (Character length) contents = option_map value.Chars (bytes_of contents)
 value_in other contents = None
-
--- 7.5.1: cut, or with blanks at its end
-abbrev pub fitted : ℕ → List ℕ → List ℕ
-fitted n text = take n (text ++ replicate n 32)
 
 -- what so many units hold once the value is assigned to them
 abbrev pub contents_of : ℕ → Value → List Content

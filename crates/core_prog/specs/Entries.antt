@@ -17,7 +17,7 @@ use Rattle.core_prog.specs.declared.storage.Variable.{Variable}
 use Rattle.core_prog.specs.Ends.{End, Faulted, Cut, ◌>>=◌, found}
 use Rattle.core_prog.specs.Operations.{as_whole}
 use Rattle.core_prog.specs.Contents.{contents_of, units_of, stored}
-use Rattle.core_prog.specs.Arrays.{Axis, span, elements, is_open}
+use Rattle.ftn_tree.specs.Arrays.{Axis, span, elements, is_open}
 use Rattle.core_prog.specs.Memory.{Holding, Memory, element_at, is_active, read_at}
 use Rattle.core_prog.specs.Programs.{Program}
 use Rattle.core_prog.specs.Holdings.{unit_of, holding}

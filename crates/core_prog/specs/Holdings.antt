@@ -11,7 +11,7 @@ use Rattle.core_prog.specs.declared.storage.Home.TheVariants as home
 use Rattle.core_prog.specs.declared.storage.Area.{Area}
 use Rattle.core_prog.specs.declared.storage.Variable.{Variable}
 use Rattle.core_prog.specs.Ends.{End, ◌>>=◌, found}
-use Rattle.core_prog.specs.Arrays.{Axis, axis_from, elements}
+use Rattle.ftn_tree.specs.Arrays.{Axis, axis_from, elements}
 use Rattle.core_prog.specs.Memory.{Holding, Memory, frame_of}
 use Rattle.core_prog.specs.Programs.{Program, Procedure}
 

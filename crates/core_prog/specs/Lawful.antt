@@ -11,12 +11,13 @@ use Rattle.core_prog.specs.declared.storage.Limit.TheVariants as limit
 use Rattle.core_prog.specs.declared.storage.Home.{Home}
 use Rattle.core_prog.specs.declared.storage.Home.TheVariants as home
 use Rattle.core_prog.specs.declared.storage.Variable.{Variable}
-use Rattle.core_prog.specs.Arrays.{elements}
+use Rattle.ftn_tree.specs.Arrays.{elements}
 use Rattle.core_prog.specs.Holdings.{unit_of, fixed_axis}
 use Rattle.core_prog.specs.Programs.{Program, Procedure}
 use Rattle.core_prog.specs.Actions.{Written, no_written, scalar, array, constants, Wanted, no_wanted, one, each, Action, assign, fill, call, exit, cycle, return, stop, continue, print, read, Statement, does, choose, select, count, while, forever, Block, empty, row, Arms, no_arms, arm, Cases, no_cases, case}
 use Rattle.core_prog.specs.Terms.{Passed}
-use Rattle.core_prog.specs.Sorts.{Sort, Whole, Truth, is_sort, sort_of_type, is_scalar, ◌>>=◌, if_so, dummies_of, sort_of, sort_of_designator, is_whole, are_passed}
+use Rattle.ftn_tree.specs.Sorts.{Sort, Whole, Truth, is_sort, sort_of_type}
+use Rattle.core_prog.specs.Sorts.{is_scalar, ◌>>=◌, if_so, dummies_of, sort_of, sort_of_designator, is_whole, are_passed}
 
 -- the type of a whole array; that of a scalar
 abbrev pub array_sort : Program → ℕ → Option Sort

@@ -3,9 +3,7 @@ pub mod Actions
 pub mod Programs
 pub mod Ends
 pub mod Operations
-pub mod Intrinsics
 pub mod Contents
-pub mod Arrays
 pub mod Memory
 pub mod Holdings
 pub mod Entries

@@ -7,7 +7,7 @@ use Rattle.core_prog.specs.declared.site.Site.{Site}
 use Rattle.core_prog.specs.declared.storage.Content.{Content}
 use Rattle.core_prog.specs.declared.outcome.FaultCode.TheVariants as code
 use Rattle.core_prog.specs.Ends.{End, Faulted, ◌>>=◌, or_end}
-use Rattle.core_prog.specs.Arrays.{Axis, element, part}
+use Rattle.ftn_tree.specs.Arrays.{Axis, element, part}
 use Rattle.core_prog.specs.Contents.{units_from, value_in, stored, contents_of}
 
 -- where a variable is: its type, its first unit, the units of one element, its dimensions, its elements

@@ -48,7 +48,7 @@ use Rattle.core_prog.specs.declared.storage.Limit.TheVariants as limit
 use Rattle.core_prog.specs.declared.storage.Home.{Home}
 use Rattle.core_prog.specs.declared.storage.Home.TheVariants as home
 use Rattle.core_prog.specs.declared.storage.Variable.{Variable}
-use Rattle.core_prog.specs.Arrays.{axis_from, elements, place_in, at_least_zero}
+use Rattle.ftn_tree.specs.Arrays.{axis_from, elements, place_in, at_least_zero}
 use Rattle.core_prog.specs.Contents.{stored, contents_of}
 use Rattle.core_prog.specs.Holdings.{unit_of}
 use Rattle.core_prog.specs.Terms.{Term, paren, variable, designator}

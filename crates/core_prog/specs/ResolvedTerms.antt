@@ -11,8 +11,7 @@ use Rattle.ftn_tree.specs.declared.value.Value.TheVariants as value
 use Rattle.ftn_tree.specs.Trees.{Tree, whole, truth, quoted, refer, Args, no_args, args, Trees, End, no_end, end, tree_of}
 use Rattle.ftn_tree.specs.Trees as tree
 use Rattle.ftn_tree.specs.Scopes.{name_at}
-use Rattle.core_prog.specs.declared.expr.Intrinsic.{Intrinsic}
-use Rattle.core_prog.specs.declared.expr.Intrinsic.TheVariants as function
+use Rattle.ftn_tree.specs.Intrinsics.{function_named}
 use Rattle.core_prog.specs.Terms.{Term, literal, paren, unary, binary, variable, constant, intrinsic, call, Terms, none, more, Designator, designator, Named, named, Section, no_section, section, Bound, no_bound, bound, Passed, no_passed, by_value, alone, to_end, constants}
 use Rattle.core_prog.specs.Naming.{Known, site, entity_at, denoted, meant_by, rank_of, is_result_in, variable_number, procedure_number, scope_opened, dummies_in, bounds_of, constant_value}
 
@@ -42,16 +41,6 @@ as_argument (of_constant of) false rest = by_value (constant of) rest
 abbrev pub as_passed : List Found → List Bool → Passed
 as_passed (first ∷ rest) (array ∷ arrays) = as_argument first array (as_passed rest arrays)
 as_passed founds arrays = no_passed
-
--- the intrinsic functions by their names (13.10)
-abbrev pub intrinsic_names : List (List ℕ × Intrinsic)
-intrinsic_names =
-    (codes "abs", function.Abs) ∷ (codes "mod", function.Mod) ∷ (codes "sign", function.Sign) ∷ (codes "min", function.Min)
-    ∷ (codes "max", function.Max) ∷ (codes "len", function.Len) ∷ (codes "len_trim", function.LenTrim) ∷ (codes "trim", function.Trim)
-    ∷ (codes "ichar", function.Ichar) ∷ (codes "char", function.Char) ∷ (codes "index", function.Index) ∷ []
-
-abbrev pub intrinsic_named : List ℕ → Option Intrinsic
-intrinsic_named name = option_map (λ (pair : List ℕ × Intrinsic). pair.1) (find (λ (pair : List ℕ × Intrinsic). bytes_eq pair.0 name) intrinsic_names)
 
 -- what a reference is: of a variable, a constant, an intrinsic function, a function of the project
 pub data Reference : Type 0 where
@@ -91,7 +80,7 @@ module _ (known : Known) (file scope : ℕ) where
       option_map_or (λ v. of_constant (named (site file token) v (bounds_of known number) subscripts range)) (constant_value known number) (plain nowhere)
 
   abbrev pub intrinsic_at : ℕ → List ℕ → Terms → Found
-  intrinsic_at token name given = plain (option_map_or (λ f. intrinsic (site file token) f given) (intrinsic_named name) nowhere)
+  intrinsic_at token name given = plain (option_map_or (λ f. intrinsic (site file token) f given) (function_named name) nowhere)
 
   abbrev pub call_at : ℕ → List Found → Found
   call_at token given =

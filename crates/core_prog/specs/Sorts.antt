@@ -2,14 +2,11 @@
 -- are to have, else none.
 use Rattle.std.specs.Prelude.{ℕ, ◌+◌, not, map, Bool, true, false, ◌&&◌, ◌||◌, ◌==◌, if◌then◌else◌, List, [], ◌∷◌, length, slice_get, Option, Some, None}
 use Rattle.std.specs.List.{list_all}
-use Rattle.ftn_base.specs.declared.entity.Ty.{Ty}
-use Rattle.ftn_base.specs.declared.entity.Ty.TheVariants as type
-use Rattle.ftn_tree.specs.declared.value.Value.{Value}
-use Rattle.ftn_tree.specs.declared.value.Value.TheVariants as value
+use Rattle.ftn_tree.specs.Sorts.{Sort, Whole, Truth, Text, is_sort, sort_of_type, sort_of_value, is_relation}
 use Rattle.ftn_tree.specs.declared.operator.Operator.{Operator}
 use Rattle.ftn_tree.specs.declared.operator.Operator.TheVariants as operator
-use Rattle.core_prog.specs.declared.expr.Intrinsic.{Intrinsic}
-use Rattle.core_prog.specs.declared.expr.Intrinsic.TheVariants as function
+use Rattle.ftn_tree.specs.declared.intrinsic.Intrinsic.{Intrinsic}
+use Rattle.ftn_tree.specs.declared.intrinsic.Intrinsic.TheVariants as function
 use Rattle.core_prog.specs.declared.storage.Variable.{Variable}
 use Rattle.core_prog.specs.Programs.{Program, Procedure}
 use Rattle.core_prog.specs.Terms.{Term, literal, paren, unary, binary, variable, constant, intrinsic, call, Terms, none, more, Designator, designator, Named, named, Section, no_section, section, Bound, no_bound, bound, Passed, no_passed, by_value, alone, to_end, constants}
@@ -19,38 +16,8 @@ abbrev pub ◌>>=◌ : {A B : Type 0} → Option A → (A → Option B) → Opti
 None >>= f = None
 Some a >>= f = f a
 
-pub data Sort : Type 0 where
-  Whole : Sort
-  Truth : Sort
-  Text : Sort
-
-abbrev pub is_sort : Sort → Option Sort → Bool
-is_sort Whole (Some Whole) = true
-is_sort Truth (Some Truth) = true
-is_sort Text (Some Text) = true
-is_sort sort found = false
-
-abbrev pub sort_of_type : Ty → Sort
-sort_of_type type.Integer = Whole
-sort_of_type type.Logical = Truth
-sort_of_type (type.Character length) = Text
-
-abbrev pub sort_of_value : Value → Sort
-sort_of_value (value.Whole z) = Whole
-sort_of_value (value.Truth truth) = Truth
-sort_of_value (value.Chars text) = Text
-
 abbrev pub if_so : Bool → Sort → Option Sort
 if_so holds sort = if holds then Some sort else None
-
-abbrev pub is_relation : Operator → Bool
-is_relation operator.Eq = true
-is_relation operator.Ne = true
-is_relation operator.Lt = true
-is_relation operator.Le = true
-is_relation operator.Gt = true
-is_relation operator.Ge = true
-is_relation other = false
 
 abbrev pub is_arithmetic : Operator → Bool
 is_arithmetic operator.Power = true

@@ -10,7 +10,7 @@ use Rattle.core_prog.specs.declared.outcome.FaultCode.TheVariants as code
 use Rattle.core_prog.specs.declared.stmt.CaseValues.{CaseValues}
 use Rattle.core_prog.specs.Ends.{End, Stopped, Faulted, Cut}
 use Rattle.core_prog.specs.Operations.{as_whole, as_truth, whole_at}
-use Rattle.core_prog.specs.Arrays.{at_least_zero, axis_from, elements}
+use Rattle.ftn_tree.specs.Arrays.{at_least_zero, axis_from, elements}
 use Rattle.core_prog.specs.Memory.{Holding, element_at, read_at}
 use Rattle.core_prog.specs.Programs.{Program}
 use Rattle.core_prog.specs.Holdings.{holding}

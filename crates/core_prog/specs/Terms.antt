@@ -3,7 +3,7 @@ use Rattle.std.specs.Prelude.{ℕ, ℤ, List, Option, Some, None}
 use Rattle.ftn_tree.specs.declared.value.Value.{Value}
 use Rattle.ftn_tree.specs.declared.operator.Operator.{Operator}
 use Rattle.core_prog.specs.declared.site.Site.{Site}
-use Rattle.core_prog.specs.declared.expr.Intrinsic.{Intrinsic}
+use Rattle.ftn_tree.specs.declared.intrinsic.Intrinsic.{Intrinsic}
 use Rattle.core_prog.specs.declared.expr.Expr.{Expr, fold-Expr}
 use Rattle.core_prog.specs.declared.expr.Actuals.{Actuals, fold-Actuals}
 use Rattle.core_prog.specs.declared.expr.Exprs.{Exprs, fold-Exprs}

@@ -5,10 +5,9 @@ use Rattle.ftn_tree.specs.declared.value.Value.{Value}
 use Rattle.ftn_tree.specs.declared.value.Value.TheVariants as value
 use Rattle.core_prog.specs.declared.site.Site.{Site}
 use Rattle.core_prog.specs.Ends.{found}
-use Rattle.core_prog.specs.Operations.{unary_of, binary_of, as_whole}
-use Rattle.core_prog.specs.Intrinsics.{intrinsic_of}
+use Rattle.core_prog.specs.Operations.{unary_of, binary_of, intrinsic_of, as_whole}
 use Rattle.core_prog.specs.Contents.{units_of}
-use Rattle.core_prog.specs.Arrays.{Axis, axis_from, elements, element, part}
+use Rattle.ftn_tree.specs.Arrays.{Axis, axis_from, elements, element, part}
 use Rattle.core_prog.specs.Memory.{Place, in_bounds, place_of, read_at}
 use Rattle.core_prog.specs.Programs.{Program, Procedure}
 use Rattle.core_prog.specs.Holdings.{holding, procedure}

@@ -2,35 +2,8 @@
 
 use crate::site::Site;
 use ftn_base::Bounds;
-use ftn_tree::{Operator, Value};
+use ftn_tree::{Intrinsic, Operator, Value};
 use sqlite_items::Boxed;
-
-/// An intrinsic function (Fortran 90, 13.10).
-#[derive(Clone, Copy)]
-pub enum Intrinsic {
-    /// ABS.
-    Abs,
-    /// MOD.
-    Mod,
-    /// SIGN.
-    Sign,
-    /// MIN.
-    Min,
-    /// MAX.
-    Max,
-    /// LEN.
-    Len,
-    /// LEN_TRIM.
-    LenTrim,
-    /// TRIM.
-    Trim,
-    /// ICHAR.
-    Ichar,
-    /// CHAR.
-    Char,
-    /// INDEX.
-    Index,
-}
 
 /// A scalar expression (7.1) with each name resolved. Variables and procedures are told by their numbers in the [`crate::Core`].
 #[cycle(expr)]

@@ -14,7 +14,8 @@ mod site;
 mod stmt;
 mod storage;
 
-pub use expr::{Actuals, ConstantRef, Expr, Exprs, Intrinsic, Substring, VariableRef};
+pub use expr::{Actuals, ConstantRef, Expr, Exprs, Substring, VariableRef};
+pub use ftn_tree::{Intrinsic, ValueFault};
 pub use io::{Inputs, Outputs};
 pub use laws::{a_run_is_one, more_steps_only_add, places_return, room_is_free, time_passes};
 pub use outcome::{FaultCode, Outcome};

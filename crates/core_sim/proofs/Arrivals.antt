@@ -20,7 +20,7 @@ use Rattle.core_prog.specs.declared.storage.Variable.{Variable}
 use Rattle.core_prog.specs.Ends.{End, Faulted, ◌>>=◌, found}
 use Rattle.core_prog.specs.Operations.{as_whole}
 use Rattle.core_prog.specs.Contents.{contents_of, units_of}
-use Rattle.core_prog.specs.Arrays.{Axis, span}
+use Rattle.ftn_tree.specs.Arrays.{Axis, span}
 use Rattle.core_prog.specs.Memory.{Holding, Frame, Memory, element_at, read_at}
 use Rattle.core_prog.specs.Programs.{Program, Procedure}
 use Rattle.core_prog.specs.Holdings.{holding}

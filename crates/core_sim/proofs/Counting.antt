@@ -6,7 +6,7 @@ use Rattle.std.proofs.lemmas.Int.{ints}
 use Rattle.std.proofs.lemmas.List.Sums.{sum_by-cons}
 use Rattle.std.proofs.Math.Nat.{mul-le-mul_right}
 use Rattle.core_prog.specs.declared.storage.Area.{Area}
-use Rattle.core_prog.specs.Arrays.{Axis, place_in, among, element, part, at_least_zero, span}
+use Rattle.ftn_tree.specs.Arrays.{Axis, place_in, among, element, part, at_least_zero, span}
 
 -- an element's units are among those of all
 pub within_element : (count n unit k : ℕ) → n < count → k ≤ unit - 1 → n * unit + k ≤ count * unit - 1

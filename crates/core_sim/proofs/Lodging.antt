@@ -15,7 +15,7 @@ use Rattle.core_prog.specs.declared.storage.Home.TheVariants as home
 use Rattle.core_prog.specs.declared.storage.Variable.{Variable}
 use Rattle.core_prog.specs.declared.outcome.FaultCode.TheVariants as code
 use Rattle.core_prog.specs.Ends.{Faulted, ◌>>=◌, found}
-use Rattle.core_prog.specs.Arrays.{Axis, elements}
+use Rattle.ftn_tree.specs.Arrays.{Axis, elements}
 use Rattle.core_prog.specs.Memory.{Holding, Frame, Memory, frame_of, is_active}
 use Rattle.core_prog.specs.Programs.{Program, Procedure}
 use Rattle.core_prog.specs.Holdings.{unit_of, number_in, fixed_axis, stored_in, home_of, holding}

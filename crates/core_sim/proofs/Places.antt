@@ -11,7 +11,7 @@ use Rattle.core_prog.specs.declared.storage.Content.{Content}
 use Rattle.core_prog.specs.declared.storage.Content.TheVariants.{Byte}
 use Rattle.core_prog.specs.Ends.{End, Faulted, ◌>>=◌, or_end}
 use Rattle.core_prog.specs.Contents.{contents_of, stored, units_from, value_in}
-use Rattle.core_prog.specs.Arrays.{Axis, element, part}
+use Rattle.ftn_tree.specs.Arrays.{Axis, element, part}
 use Rattle.core_prog.specs.Memory.{Holding, Memory, Place, in_bounds, place_of, element_at, read_at, with_value}
 use Rattle.core_prog.specs.Programs.{Program}
 use Rattle.core_prog.specs.Lawful.{IsLawful, IsAtHome, IsStored, IsArea, units_of_all}

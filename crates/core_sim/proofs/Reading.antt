@@ -13,7 +13,8 @@ use Rattle.core_prog.specs.Holdings.{holding}
 use Rattle.core_prog.specs.Programs.{Program}
 use Rattle.core_prog.specs.Entries.{left}
 use Rattle.core_prog.specs.Terms.{variable, call, Terms, none, more, designator, Section, no_section, section, no_passed}
-use Rattle.core_prog.specs.Sorts.{Sort, Whole, Truth, Text, is_sort, sort_of_type, is_scalar, ranged, element_sort, count_of, has_range, are_wholes, is_range, sort_of_designator}
+use Rattle.ftn_tree.specs.Sorts.{Sort, Whole, Truth, Text, is_sort, sort_of_type}
+use Rattle.core_prog.specs.Sorts.{is_scalar, ranged, element_sort, count_of, has_range, are_wholes, is_range, sort_of_designator}
 use Rattle.core_prog.specs.Sorts as sorts
 use Rattle.core_prog.specs.States.{State, M, Way, ◌>>=◌, told, asks}
 use Rattle.core_prog.specs.Values.{value_of, read_of, called}

@@ -22,7 +22,8 @@ use Rattle.core_prog.specs.Memory.{Holding, Frame, Memory, element_at, read_at, 
 use Rattle.core_prog.specs.Programs.{Program}
 use Rattle.core_prog.specs.Holdings.{unit_of, stored_in, home_of, holding}
 use Rattle.core_prog.specs.Entries.{emptied, with_frame, prepared, left, not_active, result_at}
-use Rattle.core_prog.specs.Sorts.{Text, is_sort, sort_of_type, is_scalar}
+use Rattle.ftn_tree.specs.Sorts.{Text, is_sort, sort_of_type}
+use Rattle.core_prog.specs.Sorts.{is_scalar}
 use Rattle.core_prog.specs.Lawful.{IsLawful, IsAtHome}
 use Rattle.core_sim.specs.Pairings.{Pairing, Swap, partner, IsPaired}
 use Rattle.core_sim.specs.Units.{units_in, IsUnit, SameUnit, is_emptied}

@@ -13,7 +13,7 @@ use Rattle.core_prog.specs.declared.outcome.FaultCode.TheVariants as code
 use Rattle.core_prog.specs.Ends.{End, Stopped, Faulted, Cut, or_end, found}
 use Rattle.core_prog.specs.Operations.{as_whole, as_truth}
 use Rattle.core_prog.specs.Contents.{units_of}
-use Rattle.core_prog.specs.Arrays.{axis_from, elements, element, part}
+use Rattle.ftn_tree.specs.Arrays.{axis_from, elements, element, part}
 use Rattle.core_prog.specs.Memory.{Place, Holding, element_at, place_of, read_at}
 use Rattle.core_prog.specs.Programs.{Program}
 use Rattle.core_prog.specs.Holdings.{holding}
@@ -23,8 +23,10 @@ use Rattle.core_prog.specs.Actions as act
 use Rattle.core_prog.specs.States.{M, Way, GoOn, Exit, Cycle, Return, ◌>>=◌, ◌>>◌, pure, tick, told, asks, around, onward}
 use Rattle.core_prog.specs.Input.{Last, Nothing, Amid, Over, run_of, run_with, run_past, run_end, scalar_in, elements_in, rest_of, rest_with, item_at, last_of}
 use Rattle.core_prog.specs.declared.storage.Variable.{Variable}
-use Rattle.core_prog.specs.Sorts.{Sort, is_sort, of_one, of_intrinsic, result_sort, sort_of, sorts_of, are_wholes, is_whole, is_range, sort_of_designator, sort_of_array, sort_of_named, sort_of_constants, are_passed}
+use Rattle.ftn_tree.specs.Sorts.{Sort, is_sort}
+use Rattle.core_prog.specs.Sorts.{of_one, of_intrinsic, result_sort, sort_of, sorts_of, are_wholes, is_whole, is_range, sort_of_designator, sort_of_array, sort_of_named, sort_of_constants, are_passed}
 use Rattle.core_prog.specs.Sorts as sorts
+use Rattle.ftn_tree.specs.Sorts as types
 use Rattle.core_prog.specs.Lawful.{has_sort, array_sort, scalar_sort, are_written, are_wanted, is_action, is_statement, is_block, are_arms, are_cases}
 use Rattle.core_prog.specs.Values.{value_of, values_of, wholes_of, bound_or, range_of, place_at, read_of, constant_in, constants_from, arguments_of, cut_out}
 use Rattle.core_prog.specs.Statements.{elements_out, copies_out, filled, grown, rounds, whole_of, truth_of, written, wanted, counted, block, chosen, selected, has, not_zero, turn_count}
@@ -163,13 +165,13 @@ module _ (pairing : Pairing) (old new : Program) (premises : Premises pairing ol
       wholes_sim : (ts : Terms) → R (CoversTerms pairing ts × (are_wholes old ts ≡ true)) (List ℤ) (List ℤ) (λ zs ys. (zs ≡ ys) × Fitting ts zs) (wholes_of old body ts) (wholes_of new body' (renamed_terms pairing swap ts))
       wholes_sim none = closed.tells h (λ zs ys. (zs ≡ ys) × Fitting none zs) (Ok []) (Ok []) (λ _. (refl, tt))
       wholes_sim (next_term t rest) =
-          same _ _ _ _ _ (closed.knows h h Same _ _ (λ x. (x.0.0, sort_has sorts.Whole (sort_of old t) (both (is_sort sorts.Whole (sort_of old t)) (are_wholes old rest) x.1).0)) (value_sim t)) (λ v. same _ _ _ _ _ (tells _ _ (itself (as_whole v))) (λ z.
-          same_with (Fitting rest) _ _ _ _ _ (closed.knows h h (λ zs ys. (zs ≡ ys) × Fitting rest zs) _ _ (λ x. (x.0.1, (both (is_sort sorts.Whole (sort_of old t)) (are_wholes old rest) x.1).1)) (wholes_sim rest)) (λ zs.
+          same _ _ _ _ _ (closed.knows h h Same _ _ (λ x. (x.0.0, sort_has types.Whole (sort_of old t) (both (is_sort types.Whole (sort_of old t)) (are_wholes old rest) x.1).0)) (value_sim t)) (λ v. same _ _ _ _ _ (tells _ _ (itself (as_whole v))) (λ z.
+          same_with (Fitting rest) _ _ _ _ _ (closed.knows h h (λ zs ys. (zs ≡ ys) × Fitting rest zs) _ _ (λ x. (x.0.1, (both (is_sort types.Whole (sort_of old t)) (are_wholes old rest) x.1).1)) (wholes_sim rest)) (λ zs.
           closed.tells h (λ zs ys. (zs ≡ ys) × Fitting (next_term t rest) zs) (Ok (z ∷ zs)) (Ok (z ∷ zs)) (λ _. (refl, tt)))))
 
       bound_sim : (z : ℤ) (t : Bound) → R (CoversBound pairing t × (is_whole old t ≡ true)) ℤ ℤ Same (bound_or old body z t) (bound_or new body' z (renamed_bound pairing swap t))
       bound_sim z no_bound = gives z
-      bound_sim z (bound t) = same _ _ _ _ _ (closed.knows h h Same _ _ (λ x. (x.0, sort_has sorts.Whole (sort_of old t) x.1)) (value_sim t)) (λ v. tells _ _ (itself (as_whole v)))
+      bound_sim z (bound t) = same _ _ _ _ _ (closed.knows h h Same _ _ (λ x. (x.0, sort_has types.Whole (sort_of old t) x.1)) (value_sim t)) (λ v. tells _ _ (itself (as_whole v)))
 
       range_sim : (n : ℕ) (s : Section) → R (Ranging s) (Option (ℤ × ℤ)) (Option (ℤ × ℤ)) (Ranged s) (range_of old body n s) (range_of new body' n (renamed_section pairing swap s))
       range_sim n no_section = closed.tells h (Ranged no_section) (Ok None) (Ok None) (λ _. (refl, λ _. refl))
@@ -418,15 +420,15 @@ module _ (pairing : Pairing) (old new : Program) (premises : Premises pairing ol
       five a b c d e x = let p = both (a && b && c && d) e x in let q = both (a && b && c) d p.0 in let r = both (a && b) c q.0 in let s = both a b r.0 in (s.0, s.1, r.1, q.1, p.1)
 
       counted_parts : (depth : ℕ) (inside : Bool) (number : ℕ) (from to : Term) (by : Bound) (turn : act.Block) →
-          (is_sort sorts.Whole (scalar_sort old number) && is_sort sorts.Whole (sort_of old from) && is_sort sorts.Whole (sort_of old to) && is_whole old by && is_block old (suc depth) inside turn) ≡ true →
-          (is_sort sorts.Whole (scalar_sort old number) ≡ true) × (is_sort sorts.Whole (sort_of old from) ≡ true) × (is_sort sorts.Whole (sort_of old to) ≡ true) × (is_whole old by ≡ true) × (is_block old (suc depth) inside turn ≡ true)
+          (is_sort types.Whole (scalar_sort old number) && is_sort types.Whole (sort_of old from) && is_sort types.Whole (sort_of old to) && is_whole old by && is_block old (suc depth) inside turn) ≡ true →
+          (is_sort types.Whole (scalar_sort old number) ≡ true) × (is_sort types.Whole (sort_of old from) ≡ true) × (is_sort types.Whole (sort_of old to) ≡ true) × (is_whole old by ≡ true) × (is_block old (suc depth) inside turn ≡ true)
       counted_parts depth inside number from to by turn x =
-          five (is_sort sorts.Whole (scalar_sort old number)) (is_sort sorts.Whole (sort_of old from)) (is_sort sorts.Whole (sort_of old to)) (is_whole old by) (is_block old (suc depth) inside turn) x
+          five (is_sort types.Whole (scalar_sort old number)) (is_sort types.Whole (sort_of old from)) (is_sort types.Whole (sort_of old to)) (is_whole old by) (is_block old (suc depth) inside turn) x
 
-      arm_parts : (depth : ℕ) (inside : Bool) (t : Term) (turn : act.Block) (rest : act.Arms) → (is_sort sorts.Truth (sort_of old t) && is_block old depth inside turn && are_arms old depth inside rest) ≡ true →
-          (is_sort sorts.Truth (sort_of old t) ≡ true) × (is_block old depth inside turn ≡ true) × (are_arms old depth inside rest ≡ true)
+      arm_parts : (depth : ℕ) (inside : Bool) (t : Term) (turn : act.Block) (rest : act.Arms) → (is_sort types.Truth (sort_of old t) && is_block old depth inside turn && are_arms old depth inside rest) ≡ true →
+          (is_sort types.Truth (sort_of old t) ≡ true) × (is_block old depth inside turn ≡ true) × (are_arms old depth inside rest ≡ true)
       arm_parts depth inside t turn rest x =
-          let p = both (is_sort sorts.Truth (sort_of old t) && is_block old depth inside turn) (are_arms old depth inside rest) x in let q = both (is_sort sorts.Truth (sort_of old t)) (is_block old depth inside turn) p.0 in (q.0, q.1, p.1)
+          let p = both (is_sort types.Truth (sort_of old t) && is_block old depth inside turn) (are_arms old depth inside rest) x in let q = both (is_sort types.Truth (sort_of old t)) (is_block old depth inside turn) p.0 in (q.0, q.1, p.1)
 
       mutual
         perform_sim : (depth : ℕ) (inside : Bool) (s : act.Statement) → R (CoversStatement pairing s × (is_statement old depth inside s ≡ true)) Way Way Same (stmts.perform old body s) (stmts.perform new body' (renamed_statement pairing swap s))
@@ -435,18 +437,18 @@ module _ (pairing : Pairing) (old new : Program) (premises : Premises pairing ol
             closed.knows h h Same _ _ (λ x. ((x.0.0, (both (are_arms old depth inside arms) (is_block old depth inside otherwise) x.1).0), (x.0.1, (both (are_arms old depth inside arms) (is_block old depth inside otherwise) x.1).1)))
             (chosen_sim depth inside arms otherwise _ _ (block_sim depth inside otherwise))
         perform_sim depth inside (act.select t cases otherwise) =
-            step _ _ _ (same _ _ _ _ _ (closed.knows h h Same _ _ (λ x. (x.0.0, sort_has sorts.Whole (sort_of old t) (both (is_sort sorts.Whole (sort_of old t)) (are_cases old depth inside cases && is_block old depth inside otherwise) x.1).0)) (whole_sim t)) (λ z.
-            closed.knows h h Same _ _ (λ x. let p = both (are_cases old depth inside cases) (is_block old depth inside otherwise) (both (is_sort sorts.Whole (sort_of old t)) (are_cases old depth inside cases && is_block old depth inside otherwise) x.1).1 in ((x.0.1, p.0), (x.0.2, p.1)))
+            step _ _ _ (same _ _ _ _ _ (closed.knows h h Same _ _ (λ x. (x.0.0, sort_has types.Whole (sort_of old t) (both (is_sort types.Whole (sort_of old t)) (are_cases old depth inside cases && is_block old depth inside otherwise) x.1).0)) (whole_sim t)) (λ z.
+            closed.knows h h Same _ _ (λ x. let p = both (are_cases old depth inside cases) (is_block old depth inside otherwise) (both (is_sort types.Whole (sort_of old t)) (are_cases old depth inside cases && is_block old depth inside otherwise) x.1).1 in ((x.0.1, p.0), (x.0.2, p.1)))
             (selected_sim depth inside z cases otherwise _ _ (block_sim depth inside otherwise))))
         perform_sim depth inside (act.count at number from to by turn) =
-            step _ _ _ (same _ _ _ _ _ (closed.knows h h Same _ _ (λ x. (x.0.1, sort_has sorts.Whole (sort_of old from) (counted_parts depth inside number from to by turn x.1).1)) (whole_sim from)) (λ a.
-            same _ _ _ _ _ (closed.knows h h Same _ _ (λ x. (x.0.2, sort_has sorts.Whole (sort_of old to) (counted_parts depth inside number from to by turn x.1).2)) (whole_sim to)) (λ b.
+            step _ _ _ (same _ _ _ _ _ (closed.knows h h Same _ _ (λ x. (x.0.1, sort_has types.Whole (sort_of old from) (counted_parts depth inside number from to by turn x.1).1)) (whole_sim from)) (λ a.
+            same _ _ _ _ _ (closed.knows h h Same _ _ (λ x. (x.0.2, sort_has types.Whole (sort_of old to) (counted_parts depth inside number from to by turn x.1).2)) (whole_sim to)) (λ b.
             same _ _ _ _ _ (closed.knows h h Same _ _ (λ x. (x.0.3, (counted_parts depth inside number from to by turn x.1).3)) (bound_sim (pos 1) by)) (λ c.
-            counted_sim at (pairing.site at) number _ _ (λ x. (x.0.0, scalar_sorted old number (sort_has sorts.Whole (scalar_sort old number) (counted_parts depth inside number from to by turn x.1).0)))
+            counted_sim at (pairing.site at) number _ _ (λ x. (x.0.0, scalar_sorted old number (sort_has types.Whole (scalar_sort old number) (counted_parts depth inside number from to by turn x.1).0)))
             (closed.knows h h Same _ _ (λ x. (x.0.4, (counted_parts depth inside number from to by turn x.1).4)) (block_sim (suc depth) inside turn)) a b c))))
         perform_sim depth inside (act.while t turn) =
-            step _ _ _ (closed.loops h _ _ _ _ (closed.knows h h Same _ _ (λ x. (x.0.0, sort_has sorts.Truth (sort_of old t) (both (is_sort sorts.Truth (sort_of old t)) (is_block old (suc depth) inside turn) x.1).0)) (truth_sim t))
-            (closed.knows h h Same _ _ (λ x. (x.0.1, (both (is_sort sorts.Truth (sort_of old t)) (is_block old (suc depth) inside turn) x.1).1)) (block_sim (suc depth) inside turn)))
+            step _ _ _ (closed.loops h _ _ _ _ (closed.knows h h Same _ _ (λ x. (x.0.0, sort_has types.Truth (sort_of old t) (both (is_sort types.Truth (sort_of old t)) (is_block old (suc depth) inside turn) x.1).0)) (truth_sim t))
+            (closed.knows h h Same _ _ (λ x. (x.0.1, (both (is_sort types.Truth (sort_of old t)) (is_block old (suc depth) inside turn) x.1).1)) (block_sim (suc depth) inside turn)))
         perform_sim depth inside (act.forever turn) = step _ _ _ (closed.loops h _ _ _ _ (gives true) (block_sim (suc depth) inside turn))
 
         pub block_sim : (depth : ℕ) (inside : Bool) (s : act.Block) → R (Doing depth inside s) Way Way Same (block old body s) (block new body' (renamed_block pairing swap s))
@@ -459,7 +461,7 @@ module _ (pairing : Pairing) (old new : Program) (premises : Premises pairing ol
             R ((CoversArms pairing arms × (are_arms old depth inside arms ≡ true)) × Doing depth inside last) Way Way Same (chosen old body arms m) (chosen new body' (renamed_arms pairing swap arms) m')
         chosen_sim depth inside act.no_arms last m m' r = closed.knows h h Same _ _ (λ x. x.1) r
         chosen_sim depth inside (act.arm t turn rest) last m m' r =
-            step _ _ _ (same _ _ _ _ _ (closed.knows h h Same _ _ (λ x. (x.0.0.0, sort_has sorts.Truth (sort_of old t) (arm_parts depth inside t turn rest x.0.1).0)) (truth_sim t)) (λ b.
+            step _ _ _ (same _ _ _ _ _ (closed.knows h h Same _ _ (λ x. (x.0.0.0, sort_has types.Truth (sort_of old t) (arm_parts depth inside t turn rest x.0.1).0)) (truth_sim t)) (λ b.
             choice_sim b _ _ _ _ (closed.knows h h Same _ _ (λ x. (x.0.0.1, (arm_parts depth inside t turn rest x.0.1).1)) (block_sim depth inside turn))
             (closed.knows h h Same _ _ (λ x. ((x.0.0.2, (arm_parts depth inside t turn rest x.0.1).2), x.1)) (chosen_sim depth inside rest last m m' r))))
 

@@ -13,7 +13,8 @@ use Rattle.core_prog.specs.declared.storage.Variable.{Variable}
 use Rattle.core_prog.specs.declared.site.Site.{Site}
 use Rattle.core_prog.specs.Programs.{Program, Procedure}
 use Rattle.core_prog.specs.Terms.{Term, Terms, none, more, Designator, designator, Named, named, Section, no_section, section, Passed, by_value, alone, to_end, constants}
-use Rattle.core_prog.specs.Sorts.{Sort, Whole, Truth, Text, is_sort, sort_of_type, sort_of_value, is_scalar, ◌>>=◌, if_so, ranged, element_sort, count_of, is_empty, has_range, dummies_of, fits, sort_of, are_wholes, is_range, sort_of_designator, sort_of_array, sort_of_named, sort_of_constants, are_passed}
+use Rattle.ftn_tree.specs.Sorts.{Sort, Whole, Truth, Text, is_sort, sort_of_type, sort_of_value}
+use Rattle.core_prog.specs.Sorts.{is_scalar, ◌>>=◌, if_so, ranged, element_sort, count_of, is_empty, has_range, dummies_of, fits, sort_of, are_wholes, is_range, sort_of_designator, sort_of_array, sort_of_named, sort_of_constants, are_passed}
 use Rattle.core_prog.specs.Lawful.{agree, scalar_sort, is_call, IsAtHome, is_number, is_fixed, is_dummy, is_bounding, is_limit, is_open_limit, are_dimensions}
 use Rattle.core_sim.specs.Pairings.{Pairing, IsPaired}
 use Rattle.core_sim.specs.Paired.{is_scalar_at}

@@ -5,7 +5,8 @@ use Rattle.core_prog.specs.declared.storage.Home.{Home}
 use Rattle.core_prog.specs.declared.storage.Home.TheVariants as home
 use Rattle.core_prog.specs.declared.storage.Variable.{Variable}
 use Rattle.core_prog.specs.Programs.{Program}
-use Rattle.core_prog.specs.Sorts.{Text, is_sort, sort_of_type, is_scalar}
+use Rattle.ftn_tree.specs.Sorts.{Text, is_sort, sort_of_type}
+use Rattle.core_prog.specs.Sorts.{is_scalar}
 use Rattle.core_prog.specs.Terms.{variable, none, designator, no_section}
 use Rattle.core_prog.specs.Actions.{Block, does, assign, row, empty}
 use Rattle.core_sim.specs.Pairings.{Pairing, Swap, partner, IsPaired}
