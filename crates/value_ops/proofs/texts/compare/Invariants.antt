@@ -1,6 +1,6 @@
 use Rattle.std.proofs.Common.{◌≡◌, ◌+◌, ◌-◌, drop, length}
-use Rattle.core_prog.specs.Operations.{texts_cmp}
-use Rattle.ftn_interp.proofs.texts.compare.Given as goal
+use Rattle.ftn_tree.specs.Operations.{texts_cmp}
+use Rattle.value_ops.proofs.texts.compare.Given as goal
 
 abbrev pub invariant-bytes : goal.invariant-bytes
 invariant-bytes l = texts_cmp (drop l.at l.a) (drop l.at l.b) ≡ texts_cmp l.a l.b

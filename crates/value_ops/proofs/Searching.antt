@@ -1,6 +1,6 @@
 -- Where a text first stands in another.
 use Rattle.std.proofs.Common.{◌≡◌, ℕ, zero, suc, ◌<◌, ◌+◌, List, [], ◌∷◌, length, drop, take, bytes_eq, true, false, refl, sym, ap, ◌∙◌, arith}
-use Rattle.core_prog.specs.Intrinsics.{index_from}
+use Rattle.ftn_tree.specs.Intrinsics.{index_from}
 use Rattle.std.specs.Prelude.{if◌then◌else◌}
 
 passed : (from : ℕ) (part text : List ℕ) (at : ℕ) → at < length text → bytes_eq (take (length part) (drop at text)) part ≡ false →

@@ -1,7 +1,7 @@
 use Rattle.std.proofs.Common.{arith, rules}
 use Rattle.std.proofs.lemmas.List.{take_all}
 use Rattle.std.proofs.lemmas.List.Sums.{suffix_len-take_yes, suffix_len-take_no}
-use Rattle.ftn_interp.proofs.intrinsics.trimmed_len.Goals as goal
+use Rattle.value_ops.proofs.intrinsics.trimmed_len.Goals as goal
 
 pub loop-len-init : goal.loop-len-init
 loop-len-init c = search (rules, take_all)

@@ -5,7 +5,7 @@ use Rattle.std.specs.Cmp.Lexicographic.{slice_cmp}
 use Rattle.std.specs.declared.cmp.Ordering.{Ordering}
 use Rattle.std.specs.declared.cmp.Ordering.TheVariants.{Less, Equal, Greater}
 use Rattle.std.specs.Ordering.{nat_cmp, ordering_then}
-use Rattle.core_prog.specs.Operations.{texts_cmp}
+use Rattle.ftn_tree.specs.Operations.{texts_cmp}
 
 abbrev first : List ℕ → ℕ
 first xs = unwrap_or (slice_get xs 0) 32

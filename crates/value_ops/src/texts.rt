@@ -1,7 +1,7 @@
 //! Texts that compare as if the shorter one had blanks at its end (Fortran 90, 7.2.3).
 
 ghost use Rattle.std.specs.Prelude.{◌≡◌, slice_get, unwrap_or};
-ghost use Rattle.core_prog.specs.Operations.{texts_cmp};
+ghost use Rattle.ftn_tree.specs.Operations.{texts_cmp};
 
 use std::cmp::Ordering;
 

@@ -1,7 +1,7 @@
 use Rattle.std.proofs.Common.{rules, arith, ◌≡◌, ◌+◌, ◌-◌, length, take, drop, bytes_eq, false, ap, sym, ◌∙◌}
 use Rattle.std.proofs.lemmas.List.{take_rest}
-use Rattle.ftn_interp.proofs.Searching.{passed_over}
-use Rattle.ftn_interp.proofs.intrinsics.index.Goals as goal
+use Rattle.value_ops.proofs.Searching.{passed_over}
+use Rattle.value_ops.proofs.intrinsics.index.Goals as goal
 
 pub starts-preserved : goal.starts-preserved
 starts-preserved c =
