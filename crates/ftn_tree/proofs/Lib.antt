@@ -3,6 +3,7 @@ pub mod AssignmentLaws
 pub mod OperatorLaws
 pub mod Inverse
 pub mod RowLaws
+pub mod Respellings
 pub mod Namings
 pub mod ExpressionNames
 pub mod PartNames
