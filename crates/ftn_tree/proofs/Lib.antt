@@ -11,6 +11,7 @@ pub mod DataNames
 pub mod UnitNames
 pub mod StatementNames
 pub mod AroundLemmas
+pub mod Surrounding
 pub mod UnitNumbers
 pub mod LineLaws
 pub mod PhraseLaws

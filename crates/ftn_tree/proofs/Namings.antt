@@ -69,7 +69,7 @@ both a b = record { say = λ at tokens says. both_said _ _ _ _ _ a b at tokens s
 
 -- ---- words and marks
 
-text_is : (value text : List ℕ) → is_text value text ≡ true → value ≡ text
+pub text_is : (value text : List ℕ) → is_text value text ≡ true → value ≡ text
 text_is value text e = (bytes_eq-Decides value text).0 e
 
 -- some word is this one

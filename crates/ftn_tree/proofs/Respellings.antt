@@ -1,6 +1,6 @@
 -- Rows with names spelled in another way.
-use Rattle.std.proofs.Common.{◌≡◌, ◌⊎◌, inl, inr, refl, sym, ◌∙◌, ap, subst, ◌≤◌, ◌<◌, ℕ, suc, ◌+◌, Bool, ◌&&◌, ◌||◌, nat_lt, if◌then◌else◌, List, [], ◌∷◌, ◌++◌, length, arith}
-use Rattle.std.specs.List.{All, Contains}
+use Rattle.std.proofs.Common.{◌≡◌, ◌⊎◌, inl, inr, refl, sym, ◌∙◌, ap, subst, ◌≤◌, ◌<◌, ℕ, suc, ◌+◌, Bool, ◌&&◌, ◌||◌, nat_lt, if◌then◌else◌, List, [], ◌∷◌, ◌++◌, length, add-zero, arith}
+use Rattle.std.specs.List.{Contains}
 use Rattle.std.proofs.lemmas.List.Elements.{All-contains, Contains-append_cases}
 use Rattle.ftn_tree.specs.declared.lexeme.Lexeme.{Lexeme}
 use Rattle.ftn_tree.specs.declared.lexeme.Lexeme.TheVariants as lexeme
@@ -10,7 +10,7 @@ use Rattle.ftn_tree.specs.Lexemes.{lexeme_of}
 use Rattle.ftn_tree.specs.Misfits.{is_word_token_at, is_open_at, is_equals_at, depth_at}
 use Rattle.ftn_tree.specs.RowNames.{AreNames, IsRespelled, Respelled}
 use Rattle.ftn_tree.proofs.AssignmentLaws.{assignment_told, told_assignment}
-use Rattle.ftn_tree.proofs.RowLaws.{none_on, one_on, from_first, up_to_last}
+use Rattle.ftn_tree.proofs.RowLaws.{one_on, from_first, up_to_last}
 
 -- ---- fewer names
 
@@ -46,7 +46,7 @@ parted numbers at [] after others alike = record {
   whole = refl;
   long = refl;
   fronts = tt;
-  backs = subst (λ n. Respelled numbers n after others) (sym (none_on at)) alike;
+  backs = subst (λ n. Respelled numbers n after others) (sym (add-zero at)) alike;
 }
 parted numbers at (here ∷ before) after [] alike = absurd alike
 parted numbers at (here ∷ before) after (other ∷ others) (one, alike) =

@@ -1,14 +1,11 @@
 -- What follows where the names of a row are those of these numbers.
-use Rattle.std.proofs.Common.{◌≡◌, ◌≢◌, inl, inr, refl, sym, ◌∙◌, ap, subst, ◌≤◌, ◌<◌, ℕ, zero, suc, ◌+◌, ◌-◌, Bool, List, [], ◌∷◌, ◌++◌, length, slice_get, Some, None, arith}
+use Rattle.std.proofs.Common.{◌≡◌, ◌≢◌, inl, inr, refl, sym, ◌∙◌, ap, subst, ◌≤◌, ◌<◌, ℕ, zero, suc, ◌+◌, ◌-◌, Bool, List, [], ◌∷◌, ◌++◌, length, slice_get, Some, None, add-zero, arith}
 use Rattle.std.specs.List.{All}
 use Rattle.std.proofs.lemmas.List.Elements.{All-nil, All-cons, All-head, All-same, All-rest, All-weaker}
 use Rattle.ftn_tree.specs.declared.lexeme.Lexeme.TheVariants as lexeme
 use Rattle.ftn_tree.specs.declared.token.Token.{Token}
 use Rattle.ftn_tree.specs.Lexemes.{lexeme_of}
 use Rattle.ftn_tree.specs.RowNames.{IsPlainWord, IsNoName, AreNames, Rise, IsWordOf}
-
-pub none_on : (at : ℕ) → at + 0 ≡ at
-none_on at = omega arith
 
 pub one_on : (at n : ℕ) → (at + 1) + n ≡ at + suc n
 one_on at n = omega arith
@@ -17,7 +14,7 @@ one_on at n = omega arith
 pub joined : (letters : Bool) (before after : List Token) (at : ℕ) (first others : List ℕ)
     → AreNames letters at before first → AreNames letters (at + length before) after others → AreNames letters at (before ++ after) (first ++ others)
 joined letters [] after at first others none said =
-    subst (λ first. AreNames letters at after (first ++ others)) (sym none) (subst (λ n. AreNames letters n after others) (none_on at) said)
+    subst (λ first. AreNames letters at after (first ++ others)) (sym none) (subst (λ n. AreNames letters n after others) (add-zero at) said)
 joined letters (here ∷ before) after at first others (inl (more, word, split, rest)) said =
     inl (
       more ++ others,
