@@ -1,6 +1,6 @@
 -- The units around a statement that a unit holds.
-use Rattle.std.proofs.Common.{◌≡◌, ◌≤◌, ◌++◌, ◌&&◌, Bool, true, false, ℕ, nat_le, List, [], ◌∷◌, map, if◌then◌else◌, refl, sym, ◌∙◌, ap, append_assoc, true≢false, arith}
-use Rattle.std.proofs.lemmas.Bool.Decides.{nat_tests}
+use Rattle.std.proofs.Common.{◌≡◌, ◌≤◌, ◌++◌, ◌&&◌, Bool, true, false, ℕ, nat_le, List, [], ◌∷◌, map, if◌then◌else◌, refl, sym, ◌∙◌, ap, append_assoc, true≢false}
+use Rattle.std.proofs.lemmas.Bool.{le-leb}
 use Rattle.std.specs.List.{flat_map}
 use Rattle.std.proofs.lemmas.List.Folds.{flat_map-map}
 use Rattle.ftn_tree.specs.declared.unit.Unit.{Unit as UnitTree, out-Unit}
@@ -17,9 +17,6 @@ chosen true true one other low high = refl
 chosen true false one other low high = absurd (true≢false (sym high))
 chosen false b one other low high = absurd (true≢false (sym low))
 
-pub no_more : (m n : ℕ) → m ≤ n → nat_le m n ≡ true
-no_more m n low = grind (arith, nat_tests)
-
 -- a unit's own opening comes after those of the units inside
 pub around_unit : (k : ℕ) (layer : Unit-F UnitTree) → nat_le layer.opening k ≡ true → nat_le k layer.ending ≡ true
     → around k (roll-Unit layer) ≡ units_around layer.inner k ++ layer.opening ∷ []
@@ -33,4 +30,4 @@ pub pushed : (k : ℕ) (here : UnitTree) (old one all : List ℕ) → (out-Unit 
 pushed k here old one all low high first last =
     let layer = out-Unit here in
     last ∙ ap (λ (l : List ℕ). l ++ layer.opening ∷ []) first ∙ append_assoc old (units_around layer.inner k) (layer.opening ∷ [])
-    ∙ ap (λ (l : List ℕ). old ++ l) (sym (ap (around k) (sym (roll-out-Unit here)) ∙ around_unit k layer (no_more layer.opening k low) (no_more k layer.ending high)))
+    ∙ ap (λ (l : List ℕ). old ++ l) (sym (ap (around k) (sym (roll-out-Unit here)) ∙ around_unit k layer (le-leb layer.opening k low) (le-leb k layer.ending high)))

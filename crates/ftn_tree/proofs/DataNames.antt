@@ -23,7 +23,7 @@ use Rattle.ftn_tree.specs.PartMentions as spec
 use Rattle.ftn_tree.specs.Phrases.{◌·◌, mark, maybe, in_parens, commas}
 use Rattle.ftn_tree.specs.Roles.{mention, mention_with}
 use Rattle.ftn_tree.specs.SpecificationForms as text
-use Rattle.ftn_tree.proofs.Namings.{Names, none_named, both, mark_named, mark_at_named, name_named, provided_named, whether_named, maybe_none, ended, parens_named, commas_named, each_named}
+use Rattle.ftn_tree.proofs.Namings.{Names, never_named, none_named, both, mark_named, mark_at_named, name_named, provided_named, whether_named, maybe_none, ended, parens_named, commas_named, each_named}
 use Rattle.ftn_tree.proofs.ExpressionNames.{number_named, quoted_named, truth_named, expr_named}
 use Rattle.ftn_tree.proofs.PartNames.{own_bounds_named}
 
@@ -46,7 +46,7 @@ later_groups_named [] = none_named
 later_groups_named (g ∷ rest) = both (provided_named _ (group_named g)) (later_groups_named rest)
 
 pub groups_named : {letters : Bool} (groups : List CommonGroup) → Names letters (text.groups groups) (spec.in_groups groups)
-groups_named [] = record { say = λ at tokens says. absurd says }
+groups_named [] = never_named _ (λ at tokens says. says)
 groups_named (g ∷ rest) = both (provided_named _ (group_named g)) (later_groups_named rest)
 
 -- ---- EQUIVALENCE
@@ -90,5 +90,5 @@ data_group_named g =
     (both (mark_named lexeme.Divide refl) (ended (commas_named data_value_named g.values) (mark_named lexeme.Divide refl))))
 
 pub data_groups_named : {letters : Bool} (groups : List DataGroup) → Names letters (text.data_groups groups) (spec.in_data_groups groups)
-data_groups_named [] = record { say = λ at tokens says. absurd says }
+data_groups_named [] = never_named _ (λ at tokens says. says)
 data_groups_named (g ∷ rest) = both (provided_named _ (data_group_named g)) (each_named data_group_named rest)

@@ -78,17 +78,29 @@ before_named number how = token_named _ _ (λ at here says. inl (λ word. no_ope
 -- ---- trees
 
 level_named : {letters : Bool} (phrase : ℕ → Phrase) (mentions : List Mention) → ((level : ℕ) → Names letters (phrase level) mentions) → Names letters (some_level phrase) mentions
-level_named phrase mentions named = record { say = λ at tokens says. (named says.0).say at tokens says.2 }
+level_named phrase mentions named = record {
+  say = λ at tokens says. (named says.0).say at tokens says.2;
+  free = λ at tokens others says alike. (says.0, says.1, (named says.0).free at tokens others says.2 alike);
+}
 
 -- a primary, whose level is 0
 primary_named : {letters : Bool} (tree : Tree) (phrase : Phrase) (mentions : List Mention) → Names letters phrase mentions
-    → ((level at : ℕ) (tokens : List Token) → Spells tree level at tokens → phrase at tokens) → (level : ℕ) → Names letters (Spells tree level) mentions
-primary_named tree phrase mentions named said level = record { say = λ at tokens says. named.say at tokens (said level at tokens says) }
+    → ((level at : ℕ) (tokens : List Token) → Spells tree level at tokens → (level ≡ 0) × phrase at tokens)
+    → ((level at : ℕ) (tokens : List Token) → (level ≡ 0) × phrase at tokens → Spells tree level at tokens) → (level : ℕ) → Names letters (Spells tree level) mentions
+primary_named tree phrase mentions named said spells level = record {
+  say = λ at tokens says. named.say at tokens (said level at tokens says).1;
+  free = λ at tokens others says alike.
+      let (zero, is) = said level at tokens says in spells level at others (zero, named.free at tokens others is alike);
+}
 
 unary_named : {letters : Bool} {mentions : List Mention} (number : ℕ) (operator : Operator) (operand : Tree) (level : ℕ)
     → ((level : ℕ) → Names letters (Spells operand level) mentions) → Names letters (Spells (unary number operator operand) level) mentions
 unary_named number operator operand level named =
-    record { say = λ at tokens says. let (how, is, level_is, k, small, spelled) = says in (both (before_named number how) (named k)).say at tokens spelled }
+    record {
+      say = λ at tokens says. let (how, is, level_is, k, small, spelled) = says in (both (before_named number how) (named k)).say at tokens spelled;
+      free = λ at tokens others says alike. let (how, is, level_is, k, small, spelled) = says in
+          (how, is, level_is, k, small, (both (before_named number how) (named k)).free at tokens others spelled alike);
+    }
 
 binary_named : {letters : Bool} {first second : List Mention} (number : ℕ) (operator : Operator) (left right : Tree) (level : ℕ)
     → ((level : ℕ) → Names letters (Spells left level) first) → ((level : ℕ) → Names letters (Spells right level) second)
@@ -97,21 +109,23 @@ binary_named number operator left right level named named_right =
     record {
       say = λ at tokens says. let (how, is, level_is, j, small, k, less, spelled) = says in
           (both (named j) (both (between_named number how) (named_right k))).say at tokens spelled;
+      free = λ at tokens others says alike. let (how, is, level_is, j, small, k, less, spelled) = says in
+          (how, is, level_is, j, small, k, less, (both (named j) (both (between_named number how) (named_right k))).free at tokens others spelled alike);
     }
 
 mutual
   tree_named : (letters : Bool) (tree : Tree) (level : ℕ) → Names letters (Spells tree level) (mentions_in (expr_of tree))
   tree_named letters (whole number value) level =
-      same_names (sym (in_whole number value)) (primary_named (whole number value) _ _ (number_named number value) (λ level at tokens says. says.1) level)
+      same_names (sym (in_whole number value)) (primary_named (whole number value) _ _ (number_named number value) (λ level at tokens says. says) (λ level at tokens says. says) level)
   tree_named letters (truth number value) level =
-      same_names (sym (in_truth number value)) (primary_named (truth number value) _ _ (truth_named number value) (λ level at tokens says. says.1) level)
+      same_names (sym (in_truth number value)) (primary_named (truth number value) _ _ (truth_named number value) (λ level at tokens says. says) (λ level at tokens says. says) level)
   tree_named letters (quoted number value) level =
-      same_names (sym (in_quoted number value)) (primary_named (quoted number value) _ _ (quoted_named number value) (λ level at tokens says. says.1) level)
+      same_names (sym (in_quoted number value)) (primary_named (quoted number value) _ _ (quoted_named number value) (λ level at tokens says. says) (λ level at tokens says. says) level)
   tree_named letters (paren number inner) level =
       same_names (sym (in_paren number (expr_of inner)))
       (primary_named (paren number inner) _ _
       (both (mark_at_named number lexeme.Open refl) (ended (level_named (Spells inner) _ (tree_named letters inner)) (mark_named lexeme.Close refl)))
-      (λ level at tokens says. says.1) level)
+      (λ level at tokens says. says) (λ level at tokens says. says) level)
   tree_named letters (unary number operator operand) level =
       same_names (sym (in_unary number operator (expr_of operand))) (unary_named number operator operand level (λ level. tree_named letters operand level))
   tree_named letters (binary number operator left right) level =
@@ -121,7 +135,7 @@ mutual
       same_names (sym (mentions_of_reference number (args_back given) (part_back part)))
       (primary_named (refer number given part) _ _
       (both (name_named (mention number (role_with (args_back given) (part_back part)))) (both (args_named letters given) (section_named letters part)))
-      (λ level at tokens says. says.1) level)
+      (λ level at tokens says. says) (λ level at tokens says. says) level)
 
   args_named : (letters : Bool) (given : Args) → Names letters (SpellsArgs given) (mentions_in_args (args_back given))
   args_named letters no_args = none_named

@@ -3,6 +3,7 @@ pub mod AssignmentLaws
 pub mod OperatorLaws
 pub mod Inverse
 pub mod RowLaws
+pub mod Respellings
 pub mod Namings
 pub mod ExpressionNames
 pub mod PartNames
@@ -10,6 +11,7 @@ pub mod DataNames
 pub mod UnitNames
 pub mod StatementNames
 pub mod AroundLemmas
+pub mod Surrounding
 pub mod UnitNumbers
 pub mod LineLaws
 pub mod PhraseLaws

@@ -37,7 +37,7 @@ use Rattle.ftn_tree.specs.Phrases.{Phrase, ◌·◌, mark, name, maybe, commas}
 use Rattle.ftn_tree.specs.Roles.{mention, mention_with}
 use Rattle.ftn_tree.specs.SpecificationForms as text
 use Rattle.ftn_tree.specs.TypeForms.{length_value, char_length, paren_length, length_selector, type_text}
-use Rattle.ftn_tree.proofs.Namings.{Names, none_named, both, word_named, word_at_named, mark_named, name_named, same_names, provided_named, parens_named, commas_named, is_listed}
+use Rattle.ftn_tree.proofs.Namings.{Names, never_named, none_named, both, word_named, word_at_named, mark_named, name_named, same_names, provided_named, parens_named, commas_named, is_listed}
 use Rattle.ftn_tree.proofs.ExpressionNames.{number_named, expr_named}
 
 -- ---- types and lengths
@@ -143,7 +143,7 @@ save_item_named (saved.Block number) = slashes_named (mention_with number role.S
 items_named : {letters : Bool} {A : Type 0} {phrase : A → Phrase} {found : A → List Mention} → ((a : A) → Names letters (phrase a) (found a))
     → (colons : Bool) (items : List A) → Names letters (text.items_or_none phrase colons items) (flat_map found items)
 items_named named false [] = none_named
-items_named named true [] = record { say = λ at tokens says. absurd says }
+items_named named true [] = never_named _ (λ at tokens says. says)
 items_named named false (first ∷ rest) = both none_named (commas_named named (first ∷ rest))
 items_named named true (first ∷ rest) = both (mark_named lexeme.Colons refl) (commas_named named (first ∷ rest))
 

@@ -1,5 +1,5 @@
 -- What follows where the names of a row are those of these numbers.
-use Rattle.std.proofs.Common.{◌≡◌, ◌≢◌, inl, inr, refl, sym, ◌∙◌, ap, subst, ◌≤◌, ◌<◌, ℕ, zero, suc, ◌+◌, ◌-◌, Bool, List, [], ◌∷◌, ◌++◌, length, slice_get, Some, None, arith}
+use Rattle.std.proofs.Common.{◌≡◌, ◌≢◌, inl, inr, refl, sym, ◌∙◌, ap, subst, ◌≤◌, ◌<◌, ℕ, zero, suc, ◌+◌, ◌-◌, Bool, List, [], ◌∷◌, ◌++◌, length, slice_get, Some, None, add-zero, arith}
 use Rattle.std.specs.List.{All}
 use Rattle.std.proofs.lemmas.List.Elements.{All-nil, All-cons, All-head, All-same, All-rest, All-weaker}
 use Rattle.ftn_tree.specs.declared.lexeme.Lexeme.TheVariants as lexeme
@@ -7,17 +7,14 @@ use Rattle.ftn_tree.specs.declared.token.Token.{Token}
 use Rattle.ftn_tree.specs.Lexemes.{lexeme_of}
 use Rattle.ftn_tree.specs.RowNames.{IsPlainWord, IsNoName, AreNames, Rise, IsWordOf}
 
-none_on : (at : ℕ) → at + 0 ≡ at
-none_on at = omega arith
-
-one_on : (at n : ℕ) → (at + 1) + n ≡ at + suc n
+pub one_on : (at n : ℕ) → (at + 1) + n ≡ at + suc n
 one_on at n = omega arith
 
 -- the names of two rows, one after the other
 pub joined : (letters : Bool) (before after : List Token) (at : ℕ) (first others : List ℕ)
     → AreNames letters at before first → AreNames letters (at + length before) after others → AreNames letters at (before ++ after) (first ++ others)
 joined letters [] after at first others none said =
-    subst (λ first. AreNames letters at after (first ++ others)) (sym none) (subst (λ n. AreNames letters n after others) (none_on at) said)
+    subst (λ first. AreNames letters at after (first ++ others)) (sym none) (subst (λ n. AreNames letters n after others) (add-zero at) said)
 joined letters (here ∷ before) after at first others (inl (more, word, split, rest)) said =
     inl (
       more ++ others,
@@ -30,7 +27,7 @@ joined letters (here ∷ before) after at first others (inr (no_name, rest)) sai
 
 -- ---- the numbers are those from the first token's on, and rise
 
-from_first : (letters : Bool) (row : List Token) (at : ℕ) (numbers : List ℕ) → AreNames letters at row numbers → All (λ number. at ≤ number) numbers
+pub from_first : (letters : Bool) (row : List Token) (at : ℕ) (numbers : List ℕ) → AreNames letters at row numbers → All (λ number. at ≤ number) numbers
 from_first letters [] at numbers none = All-same (λ number. at ≤ number) numbers [] none (All-nil (λ number. at ≤ number))
 from_first letters (here ∷ rest) at numbers (inl (others, word, split, said)) =
     All-same (λ number. at ≤ number) numbers (at ∷ others) split
@@ -38,6 +35,15 @@ from_first letters (here ∷ rest) at numbers (inl (others, word, split, said)) 
     (All-weaker (λ number. at + 1 ≤ number) (λ number. at ≤ number) (λ number more. omega arith) others (from_first letters rest (at + 1) others said)))
 from_first letters (here ∷ rest) at numbers (inr (no_name, said)) =
     All-weaker (λ number. at + 1 ≤ number) (λ number. at ≤ number) (λ number more. omega arith) numbers (from_first letters rest (at + 1) numbers said)
+
+pub up_to_last : (letters : Bool) (row : List Token) (at : ℕ) (numbers : List ℕ) → AreNames letters at row numbers → All (λ number. number < at + length row) numbers
+up_to_last letters [] at numbers none = All-same (λ number. number < at + 0) numbers [] none (All-nil (λ number. number < at + 0))
+up_to_last letters (here ∷ rest) at numbers (inl (others, word, split, said)) =
+    All-same (λ number. number < at + suc (length rest)) numbers (at ∷ others) split
+    (All-cons (λ number. number < at + suc (length rest)) at others (omega arith)
+    (All-weaker (λ number. number < at + 1 + length rest) (λ number. number < at + suc (length rest)) (λ number less. omega arith) others (up_to_last letters rest (at + 1) others said)))
+up_to_last letters (here ∷ rest) at numbers (inr (no_name, said)) =
+    All-weaker (λ number. number < at + 1 + length rest) (λ number. number < at + suc (length rest)) (λ number less. omega arith) numbers (up_to_last letters rest (at + 1) numbers said)
 
 pub rising : (letters : Bool) (row : List Token) (at : ℕ) (numbers : List ℕ) → AreNames letters at row numbers → Rise numbers
 rising letters [] at numbers none = subst Rise (sym none) tt

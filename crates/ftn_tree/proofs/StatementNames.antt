@@ -15,6 +15,7 @@ use Rattle.ftn_tree.specs.declared.parts.IoStyle.{IoStyle}
 use Rattle.ftn_tree.specs.declared.parts.IoStyle.TheVariants as style
 use Rattle.ftn_tree.specs.declared.token.Token.{Token}
 use Rattle.ftn_tree.specs.Expressions.{mentions_in, mentions_in_args, mentions_in_bound}
+use Rattle.ftn_tree.specs.Assignments.{IsAssignment}
 use Rattle.ftn_tree.specs.ExecutableForms as text
 use Rattle.ftn_tree.specs.FileFaults.{is_statement}
 use Rattle.ftn_tree.specs.Grammar.{expr}
@@ -24,10 +25,11 @@ use Rattle.ftn_tree.specs.Mentions.{action_mentions_at, action_mentions, case_me
 use Rattle.ftn_tree.specs.PartMentions as spec
 use Rattle.ftn_tree.specs.Phrases.{Phrase, ◌·◌, mark, maybe, in_parens, commas_or_none}
 use Rattle.ftn_tree.specs.Roles.{mention}
-use Rattle.ftn_tree.specs.RowNames.{AreNames, has_letters_at, has_letters, names_in}
+use Rattle.ftn_tree.specs.RowNames.{AreNames, Respelled, has_letters_at, has_letters, names_in}
 use Rattle.ftn_tree.specs.SpecificationForms.{declaration_at}
 use Rattle.ftn_tree.specs.UnitForms.{unit_form_at}
-use Rattle.ftn_tree.proofs.Namings.{Names, none_named, both, token_named, other_kind, word_named, mark_named, name_named, whether_named, provided_named, maybe_none, ended, parens_named, after_commas_named, commas_named, commas_or_none_named, is_listed}
+use Rattle.ftn_tree.proofs.Namings.{Names, never_named, none_named, both, token_named, other_kind, word_named, mark_named, name_named, whether_named, provided_named, maybe_none, ended, parens_named, after_commas_named, commas_named, commas_or_none_named, is_listed}
+use Rattle.ftn_tree.proofs.Respellings.{assignment_stays, assignment_was}
 use Rattle.ftn_tree.proofs.ExpressionNames.{expr_named, reference_named}
 use Rattle.ftn_tree.proofs.PartNames.{type_named, access_listed, procedure_listed, mode_named, attribute_named, entity_named, array_named, constant_named, saved_named, names_or_none_named, names_named}
 use Rattle.ftn_tree.proofs.DataNames.{groups_named, sets_named, data_groups_named}
@@ -64,9 +66,20 @@ input_named : {letters : Bool} (how : IoStyle) (items : List Expr) → Names let
 input_named style.Star items = both (word_named (codes "read") refl) (both (mark_named lexeme.Times refl) (after_commas_named reference_named items))
 input_named style.Paren items = both (word_named (codes "read") refl) (after_stars_named (commas_or_none_named reference_named items))
 
--- no tokens are of this form
-never_named : {letters : Bool} {mentions : List Mention} (phrase : Phrase) → ((at : ℕ) (tokens : List Token) → phrase at tokens → ⊥) → Names letters phrase mentions
-never_named phrase none = record { say = λ at tokens says. absurd (none at tokens says) }
+-- what is no assignment stays none
+otherwise_named : {letters : Bool} {phrase : Phrase} {mentions : List Mention} → Names letters phrase mentions → Names letters (text.otherwise phrase) mentions
+otherwise_named named = record {
+  say = λ at tokens says. named.say at tokens says.1;
+  free = λ at tokens others says alike. ((λ is. says.0 (assignment_was _ at tokens others alike is)), named.free at tokens others says.1 alike);
+}
+
+-- and an assignment stays one
+assigns_named : {letters : Bool} {phrase : Phrase} {mentions : List Mention} → Names letters phrase mentions
+    → Names letters (λ at tokens. IsAssignment tokens × phrase at tokens) mentions
+assigns_named named = record {
+  say = λ at tokens says. named.say at tokens says.1;
+  free = λ at tokens others says alike. (assignment_stays _ at tokens others alike says.0, named.free at tokens others says.1 alike);
+}
 
 action_named : {letters : Bool} (layer : FormLayer) → Names letters (text.action_at layer) (action_mentions_at layer)
 action_named (Form-F.Call number args) = both (word_named (codes "call") refl) (both (name_named (mention number role.Called)) (call_args_named args))
@@ -80,11 +93,13 @@ action_named _ = never_named _ (λ at tokens says. says)
 
 -- in an IF statement
 inner_named : {letters : Bool} (layer : FormLayer) → Names letters (text.inner_at layer) (action_mentions_at layer)
-inner_named (Form-F.Assign target value) = record { say = λ at tokens says. (assignment_named target value).say at tokens says.1 }
-inner_named layer = record { say = λ at tokens says. (action_named layer).say at tokens says.1 }
+inner_named (Form-F.Assign target value) = let all = assigns_named (assignment_named target value) in record { say = all.say; free = all.free }
+inner_named layer = let all = otherwise_named (action_named layer) in record { say = all.say; free = all.free }
 
 inner_from_named : {letters : Bool} (number : ℕ) (inner : Form) → Names letters (text.inner_from number inner) (action_mentions inner)
-inner_from_named number inner = record { say = λ at tokens says. (inner_named (out-Form inner)).say at tokens says.1 }
+inner_from_named number inner =
+    let one = inner_named (out-Form inner) in
+    record { say = λ at tokens says. one.say at tokens says.1; free = λ at tokens others says alike. (says.0, one.free at tokens others says.1 alike) }
 
 -- ---- constructs
 
@@ -135,10 +150,10 @@ statement_named (Form-F.DoWhile label comma found) =
     both (label_named label) (both (word_named (codes "do") refl) (both (comma_named comma) (both (word_named (codes "while") refl) (condition_named found))))
 statement_named (Form-F.Select joined found) = both (joined_named (codes "selectcase") (codes "select") (codes "case") joined refl refl refl) (condition_named found)
 statement_named (Form-F.Case ranges) = both (word_named (codes "case") refl) (case_named ranges)
-statement_named layer = record { say = λ at tokens says. (action_named layer).say at tokens says }
+statement_named layer = let one = action_named layer in record { say = one.say; free = one.free }
 
 executable_named : (layer : FormLayer) → Names (has_letters_at layer) (text.executable_at layer) (mentions_at layer)
-executable_named (Form-F.Assign target value) = record { say = λ at tokens says. (assignment_named target value).say at tokens says.1 }
+executable_named (Form-F.Assign target value) = let all = assigns_named (assignment_named target value) in record { say = all.say; free = all.free }
 executable_named (Form-F.BlockData joined number) = never_named _ (λ at tokens says. says.1)
 executable_named (Form-F.Program number) = never_named _ (λ at tokens says. says.1)
 executable_named (Form-F.ModuleProcedure names) = never_named _ (λ at tokens says. says.1)
@@ -161,7 +176,7 @@ executable_named (Form-F.External which names) = never_named _ (λ at tokens say
 executable_named (Form-F.Intent wanted colons names) = never_named _ (λ at tokens says. says.1)
 executable_named (Form-F.Common groups) = never_named _ (λ at tokens says. says.1)
 executable_named (Form-F.Equivalence sets) = never_named _ (λ at tokens says. says.1)
-executable_named layer = record { say = λ at tokens says. (statement_named layer).say at tokens says.1 }
+executable_named layer = let all = otherwise_named (statement_named layer) in record { say = all.say; free = all.free }
 
 -- ---- specifications
 
@@ -200,10 +215,15 @@ unit_form_named (Form-F.UseOnly number items) =
     (both (word_named (codes "only") refl) (both (mark_named lexeme.Colon refl) (commas_or_none_named only_item_named items)))))
 unit_form_named (Form-F.Implicit groups) = both (word_named (codes "implicit") refl) (implicit_named groups)
 unit_form_named (Form-F.Interface number) = both (word_named (codes "interface") refl) (maybe_name_named role.Generic number)
-unit_form_named layer = record { say = λ at tokens says. (declaration_named layer).say at tokens says }
+unit_form_named layer = let one = declaration_named layer in record { say = one.say; free = one.free }
 
 -- ---- all of them
 
 pub statement_names : (form : Form) (at : ℕ) (row : List Token) → is_statement form at row → AreNames (has_letters form) at row (names_in form)
 statement_names form at row (inl says) = (unit_form_named (out-Form form)).say at row says.1
 statement_names form at row (inr says) = (executable_named (out-Form form)).say at row says
+
+pub statement_free : (form : Form) (at : ℕ) (row other : List Token) → is_statement form at row → Respelled (names_in form) at row other → is_statement form at other
+statement_free form at row other (inl says) alike =
+    inl ((λ is. says.0 (assignment_was (names_in form) at row other alike is)), (unit_form_named (out-Form form)).free at row other says.1 alike)
+statement_free form at row other (inr says) alike = inr ((executable_named (out-Form form)).free at row other says alike)

@@ -34,7 +34,7 @@ use Rattle.ftn_tree.specs.Phrases.{◌·◌, word, mark, name, maybe, in_parens,
 use Rattle.ftn_tree.specs.Roles.{mention, mention_with}
 use Rattle.ftn_tree.specs.TypeForms.{type_text}
 use Rattle.ftn_tree.specs.UnitForms as text
-use Rattle.ftn_tree.proofs.Namings.{Names, none_named, both, token_named, word_named, mark_named, name_named, same_names, whether_named, parens_named, commas_named, commas_or_none_named, none_each, is_listed}
+use Rattle.ftn_tree.proofs.Namings.{Names, no_names, none_named, both, token_named, word_named, mark_named, name_named, same_names, whether_named, parens_named, commas_named, commas_or_none_named, none_each, is_listed}
 use Rattle.ftn_tree.proofs.PartNames.{type_named}
 
 -- ---- names that may be left out, and dummy arguments
@@ -152,7 +152,7 @@ none_in_type (type.Character (Some length)) whole = none_in_selector length whol
 
 implicit_type_named : {letters : Bool} (ty : ImplicitType) → Names letters (text.implicit_type ty) []
 implicit_type_named types.Real = word_named (codes "real") refl
-implicit_type_named (types.Known ty) = record { say = λ at tokens says. (same_names (none_in_type ty says.0) (type_named ty)).say at tokens says.1 }
+implicit_type_named (types.Known ty) = no_names _ (λ at tokens says. (same_names (none_in_type ty says.0) (type_named ty)).say at tokens says.1)
 
 -- ---- IMPLICIT: letters
 
@@ -160,9 +160,9 @@ letter_named : (byte number : ℕ) → Names true (text.letter byte number) []
 letter_named byte number = token_named _ _ (λ at here says. inr (inr (refl, ap length says.2)))
 
 letters_named : (first : ℕ) (last : Option ℕ) → Names true (text.letters first last) []
-letters_named first None = record { say = λ at tokens says. (letter_named says.0 first).say at tokens says.1 }
+letters_named first None = no_names _ (λ at tokens says. (letter_named says.0 first).say at tokens says.1)
 letters_named first (Some last) =
-    record { say = λ at tokens says. (both (letter_named says.0 first) (both (mark_named lexeme.Minus refl) (letter_named says.1 last))).say at tokens says.3 }
+    no_names _ (λ at tokens says. (both (letter_named says.0 first) (both (mark_named lexeme.Minus refl) (letter_named says.1 last))).say at tokens says.3)
 
 range_named : (found : LetterRange) → Names true (text.letter_range found) []
 range_named found = letters_named found.first found.last

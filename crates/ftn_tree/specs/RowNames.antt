@@ -1,7 +1,7 @@
 -- Which tokens of a statement are the names in it (this project's own). Fortran reserves no words (Fortran 90, 2.5.2), so a name may be
 -- spelled like a word of the grammar: its place says which of the two it is.
 use Rattle.std.specs.Prelude.{◌≡◌, ◌≢◌, ◌⊎◌, ◌≤◌, ◌<◌, ℕ, ◌+◌, ◌-◌, Bool, true, false, List, [], ◌∷◌, ◌++◌, map, length, slice_get, Some, codes}
-use Rattle.std.specs.List.{All, list_any}
+use Rattle.std.specs.List.{All, Contains, list_any}
 use Rattle.ftn_tree.specs.declared.form.Form.{Form, out-Form}
 use Rattle.ftn_tree.specs.declared.form.Form.TheOpen.{Form-F}
 use Rattle.ftn_tree.specs.declared.lexeme.Lexeme.TheVariants as lexeme
@@ -107,3 +107,16 @@ abbrev pub OthersArePlain : Bool → ℕ → List Token → List ℕ → Type 0
 OthersArePlain letters at row numbers =
     (place : ℕ) (here : Token) → slice_get row place ≡ Some here → lexeme_of here ≡ lexeme.Word
     → All (λ number. number ≢ at + place) numbers → IsPlainWord letters here
+
+-- ---- the same row, with names spelled in another way
+
+-- the same token, or two words where one of these names stands
+abbrev pub IsRespelled : List ℕ → ℕ → Token → Token → Type 0
+IsRespelled numbers at here other = (here ≡ other) ⊎ (Contains numbers at × (lexeme_of here ≡ lexeme.Word) × (lexeme_of other ≡ lexeme.Word))
+
+-- the second row is the first one, but any word may stand where one of these names does
+abbrev pub Respelled : List ℕ → ℕ → List Token → List Token → Type 0
+Respelled numbers at [] [] = Unit {0}
+Respelled numbers at [] (other ∷ others) = ⊥
+Respelled numbers at (here ∷ rest) [] = ⊥
+Respelled numbers at (here ∷ rest) (other ∷ others) = IsRespelled numbers at here other × Respelled numbers (at + 1) rest others

@@ -1,7 +1,13 @@
 //! The units around a statement.
 
-ghost use Rattle.std.specs.Prelude.{◌≡◌, ◌++◌, OnOk};
+ghost use Rattle.std.specs.Prelude.{◌≡◌, ◌++◌, OnOk, ℕ, List, map, reverse, not, slice_get, Some};
+ghost use Rattle.std.specs.List.{filter, find};
+ghost use Rattle.std.specs.Option.{option_map};
+ghost use Rattle.ftn_tree.specs.declared.table.Extent.{Extent};
+ghost use Rattle.ftn_tree.specs.declared.unit.FileTree.{FileTree};
 ghost use Rattle.ftn_tree.specs.Around as spec;
+ghost use Rattle.ftn_tree.specs.Extents.{covers, extents, is_interface_at, layer_at, scope_of};
+ghost use Rattle.ftn_tree.specs.Projects.{AreTrees};
 
 use crate::unit::{FileTree, Unit};
 use ftn_base::NoMemory;
@@ -38,3 +44,12 @@ fn push_unit(unit: &Unit, statement: u32, into: &mut Vec<u32>) -> Result<(), NoM
     }
     Ok(())
 }
+
+/// The law that the units around a statement of a file, as [`FileTree::units_around`] tells them, are the extents of the project that
+/// hold it, the innermost first, and that its scoping unit is the first of them that is no interface block (Fortran 90, 2.2).
+pub fn units_around_are_extents()
+    ensures around { (files : List FileTree) (file statement : ℕ) (tree : FileTree) → AreTrees files → slice_get files file ≡ Some tree
+        → spec.units_around tree.units statement ≡ reverse (map (λ (e : Extent). e.opening) (filter (covers file statement) (extents files))) }
+    ensures scope { (files : List FileTree) (file statement : ℕ) (tree : FileTree) → AreTrees files → slice_get files file ≡ Some tree
+        → option_map (λ (e : Extent). e.opening) (scope_of files file statement) ≡ find (λ opening. not (is_interface_at (layer_at files file opening))) (spec.units_around tree.units statement) }
+{}

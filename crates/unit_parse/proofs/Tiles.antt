@@ -1,6 +1,7 @@
 -- The units of a file hold each of its statements once.
 use Rattle.std.proofs.Common.{◌≡◌, ℕ, ◌+◌, ◌<◌, ◌≤◌, ◌==◌, Bool, true, false, nat_le, if◌then◌else◌, List, [], ◌∷◌, ◌++◌, length, refl, sym, ◌∙◌, ap, subst, arith, suc}
 use Rattle.std.specs.List.{flat_map}
+use Rattle.std.proofs.lemmas.Bool.{le-leb}
 use Rattle.std.proofs.lemmas.Bool.Decides.{nat_tests}
 use Rattle.ftn_tree.specs.declared.parts.EndWord.TheVariants as word
 use Rattle.ftn_tree.specs.declared.mark.Mark.{Mark}
@@ -13,7 +14,7 @@ use Rattle.ftn_tree.specs.Marks.{same_word, is_construct, begins_arm}
 use Rattle.ftn_tree.specs.Regions.{region_of}
 use Rattle.ftn_tree.specs.Nesting.{Row, none, stands, nest, spelled, heads, IsNested, Held, held, arm, unit, arms_of, Nested}
 use Rattle.ftn_tree.specs.Around.{with_opening, numbers_of_block, numbers_of_arm, numbers_of, around, units_around}
-use Rattle.ftn_tree.proofs.AroundLemmas.{no_more, around_unit}
+use Rattle.ftn_tree.proofs.AroundLemmas.{around_unit}
 use Rattle.ftn_tree.proofs.UnitNumbers.{unit_numbers, plain_numbers, nest_numbers, arm_numbers}
 use Rattle.unit_parse.specs.Tiling.{AreTiled}
 use Rattle.unit_parse.proofs.Complete.{numbers}
@@ -191,7 +192,7 @@ module _ (same : ℕ → ℕ → Bool) where
       by true inside_it again =
           not_none at (units_around h.units k) (units_around after.units k)
           (ap (λ (l : List ℕ). l ++ units_around after.units k)
-          (sym (around_unit k (record { opening = at; ending = ending; inner = h.units; body = h.blocks }) (no_more at k low) inside_it))
+          (sym (around_unit k (record { opening = at; ending = ending; inner = h.units; body = h.blocks }) (le-leb at k low) inside_it))
           ∙ units)
       by false past_it again =
           let long : at + 1 + length (spelled inside) + 1 + length (spelled rest) ≡ at + suc (length (spelled inside ++ end ∷ spelled rest)) = numbers (spelled inside) end (spelled rest) at in
