@@ -7,7 +7,7 @@ use Rattle.core_prog.specs.Programs.{Program}
 use Rattle.core_prog.specs.States.{M, Way, ◌>>=◌, ends, tick, told, asks, puts, remembers, emits, takes, by_input}
 use Rattle.core_prog.specs.Statements.{looped}
 use Rattle.core_sim.specs.Pairings.{Pairing}
-use Rattle.core_sim.specs.Paired.{Near, PairedMemory}
+use Rattle.core_sim.specs.Paired.{Near, HasTypes, PairedMemory}
 
 abbrev pub Same : {A : Type 0} → A → A → Type 0
 Same a b = a ≡ b
@@ -36,8 +36,8 @@ module _ (pairing : Pairing) (old new : Program) where
         Rel X h k A A R m m' → ((a b : A) → Rel (X × R a b) k l C D S (f a) (g b)) → Rel X h l C D S (m >>= f) (m' >>= g)
     pub ticks : {X : Type 0} (h : ℕ) → Rel X h h (Unit {0}) (Unit {0}) Any tick tick
     pub asked : {X A B : Type 0} (h : ℕ) (R : A → B → Type 0) (q : Memory → Result A End) (q' : Memory → Result B End) →
-        (X → (m m' : Memory) → PairedMemory pairing old new h m m' → Answers R (q m) (q' m')) → Rel X h h A B R (asks q) (asks q')
-    pub remembered : {X : Type 0} (h k : ℕ) (m m' : Memory) → (X → PairedMemory pairing old new k m m') → Rel X h k (Unit {0}) (Unit {0}) Any (remembers m) (remembers m')
+        (X → (m m' : Memory) → PairedMemory pairing old new h m m' → HasTypes old m.active → Answers R (q m) (q' m')) → Rel X h h A B R (asks q) (asks q')
+    pub remembered : {X : Type 0} (h k : ℕ) (m m' : Memory) → (X → PairedMemory pairing old new k m m' × HasTypes old m.active) → Rel X h k (Unit {0}) (Unit {0}) Any (remembers m) (remembers m')
     pub put : {X : Type 0} (h : ℕ) (p p' : Place) (v v' : Value) → (X → PlaceSame p p' × (v ≡ v')) → Rel X h h (Unit {0}) (Unit {0}) Any (puts p v) (puts p' v')
     pub emitted : {X : Type 0} (h : ℕ) (bytes bytes' : List ℕ) → (X → bytes ≡ bytes') → Rel X h h (Unit {0}) (Unit {0}) Any (emits bytes) (emits bytes')
     pub taken : {X : Type 0} (h : ℕ) → Rel X h h (Option ℕ) (Option ℕ) Same takes takes

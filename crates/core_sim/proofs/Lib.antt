@@ -4,6 +4,10 @@ pub mod Cells
 pub mod Counting
 pub mod Places
 pub mod Lodging
+pub mod Types
+pub mod Results
+pub mod Giving
+pub mod Valued
 pub mod Arrivals
 pub mod Calls
 pub mod Trees
@@ -14,5 +18,6 @@ pub mod Typed
 pub mod Doing
 pub mod Copying
 pub mod Swapping
+pub mod Setting
 pub mod Spending
 pub mod Reading

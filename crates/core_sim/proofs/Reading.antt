@@ -25,7 +25,7 @@ use Rattle.core_sim.specs.Pairings.{Pairing, Swap}
 use Rattle.core_sim.specs.Renaming.{swap_of}
 use Rattle.core_sim.specs.Premises.{Premises}
 use Rattle.core_sim.specs.Swaps.{IsSwap, is_one_unit}
-use Rattle.core_sim.specs.Paired.{Paired, PairedMemory}
+use Rattle.core_sim.specs.Paired.{HasTypes, Paired, PairedMemory}
 use Rattle.core_sim.specs.Keeping.{Budget, so_many, no_more, IsFault, Alike, KeepsWithin}
 use Rattle.core_sim.specs.Copying.{Outcome, Does, Is, Got, whole_of}
 use Rattle.core_sim.proofs.Answering.{Same, Answers}
@@ -121,6 +121,7 @@ module _ (pairing : Pairing) (old new : Program) (premises : Premises pairing ol
       (λ a b m m' k k'. (
         ok_same (read_at at (whole_of (source_old pairing old new premises s w).h) u.memory) (read_at w.getter.from (whole_of (source_new pairing old new premises s w).h) (in_getter pairing old new premises s w u'.memory)) a b (getter_reads pairing old new premises s w at h u.memory u'.memory x.memory) k.0 k'.0,
         subst (λ z. PairedMemory pairing old new h z m') (sym k.1) (subst (λ z. PairedMemory pairing old new h u.memory z) (sym k'.1) (getter_leaves pairing old new premises s w h u.memory u'.memory b x.memory k'.0)),
+        subst (λ (z : Memory). HasTypes old z.active) (sym k.1) x.typed,
       ))
       (λ a m e k k'. ok_err (read_at at (whole_of (source_old pairing old new premises s w).h) u.memory) (read_at w.getter.from (whole_of (source_new pairing old new premises s w).h) (in_getter pairing old new premises s w u'.memory)) a e (getter_reads pairing old new premises s w at h u.memory u'.memory x.memory) k.0 k')
       (λ b m e k k'. err_ok (read_at at (whole_of (source_old pairing old new premises s w).h) u.memory) (read_at w.getter.from (whole_of (source_new pairing old new premises s w).h) (in_getter pairing old new premises s w u'.memory)) b e (getter_reads pairing old new premises s w at h u.memory u'.memory x.memory) k' k.0)
@@ -139,7 +140,7 @@ read_passes program body at number =
 call_passes : (program : Program) (room : ℕ) (at : Site) (number : ℕ) → Passes (called program (bodies program room) at number [] >>= (λ r. told (found r)))
 call_passes program room at number = passes_binds (called program (bodies program room) at number []) (λ r. told (found r)) (passes_called program (bodies program room) at number [] (bodies_pass program room number)) (λ r. passes_told (found r))
 
-pub reads_keep : (pairing : Pairing) (old new : Program) → Premises pairing old new → (s : Swap) → IsSwap pairing old new s → (factor : ℕ) → 8 ≤ factor → (room : ℕ) (at at' : Site) →
+pub reads_keep : (pairing : Pairing) (old new : Program) → Premises pairing old new → (s : Swap) → IsSwap pairing old new s → (factor : ℕ) → 5 ≤ factor → (room : ℕ) (at at' : Site) →
     KeepsWithin pairing old new (Unit {0}) factor Same (value_of old (bodies old room) (variable (designator at s.variable none no_section))) (value_of new (bodies new (suc room)) (call at' s.getter no_passed))
 reads_keep pairing old new premises s w factor h room at at' = record {
   forth = λ height t t' q l. reads_alike pairing old new premises s w (so_many (Unit {0}) factor) (so_many_spending factor h) 0 (bodies old room) room at at' height (read_passes old (bodies old room) at s.variable) (call_passes new (suc room) at' s.getter) t t' q l;

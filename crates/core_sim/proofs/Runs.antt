@@ -78,7 +78,7 @@ module _ (pairing : Pairing) (old new : Program) (premises : Premises pairing ol
           ∙ sym (slice_get_past (first_contents new) at' (past_all (length (first_contents new)) (units_in new) at' u.0 (first_length new.areas) u.2))
 
   start_paired : (input : List ℕ) (n n' : ℕ) → Paired pairing old new 0 (start old input n) (start new input n')
-  start_paired input n n' = record { memory = first_paired; input = refl; output = refl }
+  start_paired input n n' = record { memory = first_paired; typed = tt; input = refl; output = refl }
 
   -- ---- under a budget
 

@@ -54,5 +54,5 @@ pub fn a_copy_takes_four_steps()
 /// Where a variable has a swap, a read of it and a call of the function keep within eight steps for each: they give the same value or fail
 /// alike, and leave paired states unless they fail.
 pub fn a_call_reads()
-    ensures { (pairing : Pairing) (old new : Program) → Premises pairing old new → (s : Swap) → IsSwap pairing old new s → (factor : ℕ) → 8 ≤ factor → (room : ℕ) (at at' : Site) → KeepsWithin pairing old new (Unit {0}) factor ◌≡◌ (value_of old (bodies old room) (variable (designator at s.variable none no_section))) (value_of new (bodies new (suc room)) (call at' s.getter no_passed)) }
+    ensures { (pairing : Pairing) (old new : Program) → Premises pairing old new → (s : Swap) → IsSwap pairing old new s → (factor : ℕ) → 5 ≤ factor → (room : ℕ) (at at' : Site) → KeepsWithin pairing old new (Unit {0}) factor ◌≡◌ (value_of old (bodies old room) (variable (designator at s.variable none no_section))) (value_of new (bodies new (suc room)) (call at' s.getter no_passed)) }
 {}
