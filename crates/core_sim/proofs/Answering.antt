@@ -1,4 +1,5 @@
 -- Answers about two memories that are related; what a relation between computations of two programs has to keep.
+use Rattle.std.proofs.Common.{subst}
 use Rattle.std.specs.Prelude.{◌≡◌, ℕ, List, Bool, Option, Result, Ok, Err}
 use Rattle.ftn_tree.specs.declared.value.Value.{Value}
 use Rattle.core_prog.specs.Ends.{End, outcome_of}
@@ -19,6 +20,19 @@ abbrev pub Answers : {A B : Type 0} → (A → B → Type 0) → Result A End �
 Answers R (Ok a) (Ok b) = R a b
 Answers R (Err e) (Err e') = outcome_of e ≡ outcome_of e'
 Answers R r r' = ⊥
+
+-- answers of both
+pub ok_same : {A : Type 0} (r r' : Result A End) (a b : A) → Answers {A = A} {B = A} Same r r' → r ≡ Ok a → r' ≡ Ok b → a ≡ b
+ok_same {A} r r' a b h e f = subst (λ y. Answers {A = A} {B = A} Same (Ok a) y) f (subst (λ x. Answers {A = A} {B = A} Same x r') e h)
+
+pub ok_err : {A : Type 0} (r r' : Result A End) (a : A) (e : End) → Answers {A = A} {B = A} Same r r' → r ≡ Ok a → r' ≡ Err e → ⊥
+ok_err {A} r r' a e h p q = subst (λ y. Answers {A = A} {B = A} Same (Ok a) y) q (subst (λ x. Answers {A = A} {B = A} Same x r') p h)
+
+pub err_ok : {A : Type 0} (r r' : Result A End) (b : A) (e : End) → Answers {A = A} {B = A} Same r r' → r ≡ Err e → r' ≡ Ok b → ⊥
+err_ok {A} r r' b e h p q = subst (λ y. Answers {A = A} {B = A} Same (Err e) y) q (subst (λ x. Answers {A = A} {B = A} Same x r') p h)
+
+pub err_same : {A : Type 0} (r r' : Result A End) (e e' : End) → Answers {A = A} {B = A} Same r r' → r ≡ Err e → r' ≡ Err e' → outcome_of e ≡ outcome_of e'
+err_same {A} r r' e e' h p q = subst (λ y. Answers {A = A} {B = A} Same (Err e) y) q (subst (λ x. Answers {A = A} {B = A} Same x r') p h)
 
 module _ (pairing : Pairing) (old new : Program) where
   -- the units of a variable, an element or a substring are one

@@ -21,3 +21,4 @@ pub mod Swapping
 pub mod Setting
 pub mod Spending
 pub mod Reading
+pub mod Assigning

@@ -180,7 +180,7 @@ module _ (pairing : Pairing) (old new : Program) (premises : Premises pairing ol
           same _ _ _ _ _ (closed.knows h h Same _ _ (λ x. (x.0.1, (both (is_whole old low) (is_whole old high) x.1).1)) (bound_sim (pos n) high)) (λ b.
           closed.tells h (Ranged (section low high)) (Ok (Some (a, b))) (Ok (Some (a, b))) (λ _. (refl, λ p. absurd p))))
 
-      place_sim : (d : Designator) → R (CoversDesignator pairing d × Has (sort_of_designator old d)) Place Place (PlaceSame pairing old new) (place_at old body d) (place_at new body' (renamed_designator pairing swap d))
+      pub place_sim : (d : Designator) → R (CoversDesignator pairing d × Has (sort_of_designator old d)) Place Place (PlaceSame pairing old new) (place_at old body d) (place_at new body' (renamed_designator pairing swap d))
       place_sim (designator at number subscripts range) =
           closed.binds h h h _ _ _ _ _ _ (holds_at number (λ x. x.0.0)) (λ g g'.
           same_with (Fitting subscripts) _ _ _ _ _ (closed.knows h h _ _ _ (λ x. (x.0.0.1, (scalar_parts old number subscripts range x.0.1).0)) (wholes_sim subscripts)) (λ zs.
