@@ -36,16 +36,9 @@ use Rattle.core_sim.proofs.Setting.{took, one_taken, no_text, dummy_held, in_set
 use Rattle.core_sim.proofs.Spending.{Spending, gain_step, four_more, then_with, halts}
 use Rattle.core_sim.proofs.Stepping.{Rel, closed}
 use Rattle.core_sim.proofs.Reading.{at_fault}
+use Rattle.core_sim.proofs.Placing.{joined, goes_same}
 
 -- ---- computations put together
-
-joined : {A B C : Type 0} (r : Ran A) (f : A → M B) (g : B → M C) → goes_on (goes_on r f) g ≡ goes_on r (λ a s. goes_on (f a s) g)
-joined (Went a t) f g = refl
-joined (Ended e t) f g = refl
-
-goes_same : {A B : Type 0} (r : Ran A) (f g : A → M B) → ((a : A) (t : State) → f a t ≡ g a t) → goes_on r f ≡ goes_on r g
-goes_same (Went a t) f g h = h a t
-goes_same (Ended e t) f g h = refl
 
 argued : {A : Type 0} (r : Ran Value) (k : List Argument → M A) → goes_on (goes_on r (λ v. pure [] >>= (λ args. pure (own v 1 ∷ args)))) k ≡ goes_on r (λ v. k (own v 1 ∷ []))
 argued (Went v t) k = refl

@@ -21,4 +21,5 @@ pub mod Swapping
 pub mod Setting
 pub mod Spending
 pub mod Reading
+pub mod Placing
 pub mod Assigning

@@ -1,5 +1,5 @@
 -- Reads of a swapped variable, under a budget.
-use Rattle.std.proofs.Common.{◌≡◌, ◌≤◌, ◌+◌, ℕ, zero, suc, [], length, refl, sym, ap, subst, ◌∙◌, arith}
+use Rattle.std.proofs.Common.{◌≡◌, ◌≤◌, ◌+◌, ◌*◌, ℕ, zero, suc, [], length, refl, sym, ap, subst, ◌∙◌, arith}
 use Rattle.std.specs.Prelude.{◌==◌, Bool, true, false, not, ◌&&◌, nat_eq, slice_get, if◌then◌else◌, Option, Some, None, Result, Ok, Err}
 use Rattle.std.proofs.lemmas.Bool.Decides.{nat_tests}
 use Rattle.ftn_tree.specs.declared.value.Value.{Value}
@@ -33,7 +33,7 @@ use Rattle.core_sim.proofs.Typed.{Has, has_if, both}
 use Rattle.core_sim.proofs.Doing.{does_binds, does_pure}
 use Rattle.core_sim.proofs.Copying.{read_of_does, call_halts}
 use Rattle.core_sim.proofs.Swapping.{free_at, source_old, source_new, result_new, in_getter, getter_call, getter_reads, getter_leaves}
-use Rattle.core_sim.proofs.Spending.{Spending, gain_step, four_more, halts, no_more_spending, so_many_spending}
+use Rattle.core_sim.proofs.Spending.{Spending, gain_step, four_more, halts, no_more_spending, so_many_spending, at_least, at_least_spending, at_most_each, at_most_spending, costs, same_sum}
 
 -- a read that fails is a fault
 pub at_fault : (at : Site) (p : Place) (m : Memory) (e : End) → read_at at p m ≡ Err e → IsFault e
@@ -143,6 +143,14 @@ call_passes program room at number = passes_binds (called program (bodies progra
 pub reads_keep : (pairing : Pairing) (old new : Program) → Premises pairing old new → (s : Swap) → IsSwap pairing old new s → (factor : ℕ) → 5 ≤ factor → (room : ℕ) (at at' : Site) →
     KeepsWithin pairing old new (Unit {0}) factor Same (value_of old (bodies old room) (variable (designator at s.variable none no_section))) (value_of new (bodies new (suc room)) (call at' s.getter no_passed))
 reads_keep pairing old new premises s w factor h room at at' = record {
-  forth = λ height t t' q l. reads_alike pairing old new premises s w (so_many (Unit {0}) factor) (so_many_spending factor h) 0 (bodies old room) room at at' height (read_passes old (bodies old room) at s.variable) (call_passes new (suc room) at' s.getter) t t' q l;
-  back = λ height t t' q l. reads_alike pairing old new premises s w (λ c. no_more (Unit {0})) no_more_spending 0 (bodies old room) room at at' height (read_passes old (bodies old room) at s.variable) (call_passes new (suc room) at' s.getter) t t' q l;
+  forth = λ height t t' q l. under (so_many (Unit {0}) factor) (so_many_spending factor h) 0 height t t' q l;
+  back = λ height t t' q l. under (λ c. no_more (Unit {0})) no_more_spending 0 height t t' q l;
+  steps = λ height t t' q.
+      costs pairing old new (Unit {0}) factor height Same t t' (value_of old (bodies old room) (variable (designator at s.variable none no_section)) t) (value_of new (bodies new (suc room)) (call at' s.getter no_passed) t')
+      (under (λ c. at_least (Unit {0}) t.left t'.left) (at_least_spending t.left t'.left) 0 height t t' q (same_sum t.left t'.left))
+      (under (λ c. at_most_each (Unit {0}) factor c (factor * t.left)) (at_most_spending factor (factor * t.left) h) t'.left height t t' q (same_sum t'.left (factor * t.left)));
 }
+  where
+    under : (family : ℕ → Budget) → Spending family → (c height : ℕ) (t t' : State) → Paired pairing old new height t t' → (family c).Left t.left t'.left →
+        Alike pairing old new (family c) height Same (value_of old (bodies old room) (variable (designator at s.variable none no_section)) t) (value_of new (bodies new (suc room)) (call at' s.getter no_passed) t')
+    under family spending c height t t' q l = reads_alike pairing old new premises s w family spending c (bodies old room) room at at' height (read_passes old (bodies old room) at s.variable) (call_passes new (suc room) at' s.getter) t t' q l

@@ -8,7 +8,7 @@ use Rattle.core_prog.specs.Lasting.{Passes, state_of}
 use Rattle.core_sim.specs.Pairings.{Pairing}
 use Rattle.core_sim.specs.Premises.{Premises}
 use Rattle.core_sim.specs.Paired.{HasTypes, Paired, PairedMemory}
-use Rattle.core_sim.specs.Keeping.{Budget, so_many, no_more, IsFront, IsFault, GoesAlike, EndsAlike, Alike}
+use Rattle.core_sim.specs.Keeping.{Budget, so_many, no_more, IsFront, IsFault, GoesAlike, EndsAlike, Alike, Costs}
 use Rattle.core_sim.specs.Copying.{Outcome}
 use Rattle.core_sim.proofs.Stepping.{Counts, no_more_counts, so_many_counts, lags_old, lags_new, later_front, front_same, front_then}
 use Rattle.core_sim.proofs.Giving.{Given}
@@ -113,16 +113,16 @@ module _ (pairing : Pairing) (old new : Program) (premises : Premises pairing ol
 
 -- ---- families of budgets
 
-less : (n n' : ℕ) → suc n' ≤ suc n → n' ≤ n
+pub less : (n n' : ℕ) → suc n' ≤ suc n → n' ≤ n
 less n n' h = omega arith
 
-four_less : (n n' u : ℕ) → n' ≤ n → u + 4 ≡ n' → u ≤ n
+pub four_less : (n n' u : ℕ) → n' ≤ n → u + 4 ≡ n' → u ≤ n
 four_less n n' u h e = omega arith
 
-none_above : (n : ℕ) → suc n ≤ zero → ⊥
+pub none_above : (n : ℕ) → suc n ≤ zero → ⊥
 none_above n h = omega arith
 
-pub no_more_spending : Spending (λ c. no_more (Unit {0}))
+abbrev pub no_more_spending : Spending (λ c. no_more (Unit {0}))
 no_more_spending = record {
   counts = λ c. no_more_counts (Unit {0});
   next = λ c. c;
@@ -139,22 +139,22 @@ no_more_spending = record {
   deep_new = λ c room h. tt;
 }
 
-four_more_spare : (factor c n n' : ℕ) → 5 ≤ factor → factor * suc n + c ≤ suc n' → factor * n + (c + 4) ≤ n'
+pub four_more_spare : (factor c n n' : ℕ) → 5 ≤ factor → factor * suc n + c ≤ suc n' → factor * n + (c + 4) ≤ n'
 four_more_spare factor c n n' h k = let e : factor * suc n ≡ factor * n + factor = omega arith in omega arith
 
-four_used : (all c n' u : ℕ) → all + (c + 4) ≤ n' → u + 4 ≡ n' → all + c ≤ u
+pub four_used : (all c n' u : ℕ) → all + (c + 4) ≤ n' → u + 4 ≡ n' → all + c ≤ u
 four_used all c n' u h e = omega arith
 
-never_cut : (all c n' : ℕ) → all + (c + 4) ≤ n' → n' < 4 → ⊥
+pub never_cut : (all c n' : ℕ) → all + (c + 4) ≤ n' → n' < 4 → ⊥
 never_cut all c n' h k = omega arith
 
-spare_less : (all c n' : ℕ) → all + (c + 4) ≤ n' → all + c ≤ n'
+pub spare_less : (all c n' : ℕ) → all + (c + 4) ≤ n' → all + c ≤ n'
 spare_less all c n' h = omega arith
 
 pub one_at_least : (factor : ℕ) → 5 ≤ factor → 1 ≤ factor
 one_at_least factor h = omega arith
 
-pub so_many_spending : (factor : ℕ) → 5 ≤ factor → Spending (so_many (Unit {0}) factor)
+abbrev pub so_many_spending : (factor : ℕ) → 5 ≤ factor → Spending (so_many (Unit {0}) factor)
 so_many_spending factor h = record {
   counts = λ c. so_many_counts (Unit {0}) factor c (one_at_least factor h);
   next = λ c. c + 4;
@@ -178,13 +178,24 @@ abbrev pub at_least : Type 0 → ℕ → ℕ → Budget
 at_least lose a b = record { Left = λ n n'. a + n' ≤ b + n; MayCutOld = Unit {0}; MayCutNew = Unit {0}; MayLose = lose }
 
 -- at most so many for each
-abbrev pub at_most : Type 0 → ℕ → ℕ → ℕ → Budget
-at_most lose factor a b = record { Left = λ n n'. a + factor * n ≤ b + n'; MayCutOld = Unit {0}; MayCutNew = Unit {0}; MayLose = lose }
+abbrev pub at_most_each : Type 0 → ℕ → ℕ → ℕ → Budget
+at_most_each lose factor a b = record { Left = λ n n'. a + factor * n ≤ b + n'; MayCutOld = Unit {0}; MayCutNew = Unit {0}; MayLose = lose }
 
-one_less_each : (a b n n' : ℕ) → a + suc n' ≤ b + suc n → a + n' ≤ b + n
+pub same_sum : (a b : ℕ) → a + b ≤ b + a
+same_sum a b = omega arith
+
+-- from both
+pub costs : (pairing : Pairing) (old new : Program) (lose : Type 0) (factor height : ℕ) {A B : Type 0} (R : A → B → Type 0) (s s' : State) (r : Ran A) (r' : Ran B) → Alike pairing old new (at_least lose s.left s'.left) height R r r' → Alike pairing old new (at_most_each lose factor s'.left (factor * s.left)) height R r r' →
+    Costs factor s s' r r'
+costs pairing old new lose factor height R s s' (Went a t) (Went b t') h k = (h.1.left, k.1.left)
+costs pairing old new lose factor height R s s' (Went a t) (Ended e t') h k = tt
+costs pairing old new lose factor height R s s' (Ended e t) (Went b t') h k = tt
+costs pairing old new lose factor height R s s' (Ended e t) (Ended e' t') h k = tt
+
+pub one_less_each : (a b n n' : ℕ) → a + suc n' ≤ b + suc n → a + n' ≤ b + n
 one_less_each a b n n' h = omega arith
 
-pub at_least_counts : (lose : Type 0) (a b : ℕ) → Counts (at_least lose a b)
+abbrev pub at_least_counts : (lose : Type 0) (a b : ℕ) → Counts (at_least lose a b)
 at_least_counts lose a b = record {
   Room = λ n n'. Unit {0};
   step = λ n n' h. one_less_each a b n n' h;
@@ -196,10 +207,10 @@ at_least_counts lose a b = record {
   room_new = λ n h. tt;
 }
 
-one_for_each : (factor a b n n' : ℕ) → 1 ≤ factor → a + factor * suc n ≤ b + suc n' → a + factor * n ≤ b + n'
+pub one_for_each : (factor a b n n' : ℕ) → 1 ≤ factor → a + factor * suc n ≤ b + suc n' → a + factor * n ≤ b + n'
 one_for_each factor a b n n' h k = let e : factor * suc n ≡ factor * n + factor = omega arith in omega arith
 
-pub at_most_counts : (lose : Type 0) (factor a b : ℕ) → 1 ≤ factor → Counts (at_most lose factor a b)
+abbrev pub at_most_counts : (lose : Type 0) (factor a b : ℕ) → 1 ≤ factor → Counts (at_most_each lose factor a b)
 at_most_counts lose factor a b h = record {
   Room = λ n n'. Unit {0};
   step = λ n n' k. one_for_each factor a b n n' h k;
@@ -211,10 +222,10 @@ at_most_counts lose factor a b h = record {
   room_new = λ n k. tt;
 }
 
-four_less_each : (a b n n' u : ℕ) → a + n' ≤ b + n → u + 4 ≡ n' → a + u ≤ b + n
+pub four_less_each : (a b n n' u : ℕ) → a + n' ≤ b + n → u + 4 ≡ n' → a + u ≤ b + n
 four_less_each a b n n' u h e = omega arith
 
-pub at_least_spending : (a b : ℕ) → Spending (λ c. at_least (Unit {0}) a b)
+abbrev pub at_least_spending : (a b : ℕ) → Spending (λ c. at_least (Unit {0}) a b)
 at_least_spending a b = record {
   counts = λ c. at_least_counts (Unit {0}) a b;
   next = λ c. c;
@@ -231,26 +242,26 @@ at_least_spending a b = record {
   deep_new = λ c room h. tt;
 }
 
-four_gained : (factor a c b n n' : ℕ) → 5 ≤ factor → (a + c) + factor * suc n ≤ b + suc n' → (a + (c + 4)) + factor * n ≤ b + n'
-four_gained factor a c b n n' h k = let e : factor * suc n ≡ factor * n + factor = omega arith in omega arith
+pub four_gained : (factor c b n n' : ℕ) → 5 ≤ factor → c + factor * suc n ≤ b + suc n' → (c + 4) + factor * n ≤ b + n'
+four_gained factor c b n n' h k = let e : factor * suc n ≡ factor * n + factor = omega arith in omega arith
 
-four_spent : (a c all b n' u : ℕ) → (a + (c + 4)) + all ≤ b + n' → u + 4 ≡ n' → (a + c) + all ≤ b + u
-four_spent a c all b n' u h e = omega arith
+pub four_spent : (c all b n' u : ℕ) → (c + 4) + all ≤ b + n' → u + 4 ≡ n' → c + all ≤ b + u
+four_spent c all b n' u h e = omega arith
 
-less_gained : (a c all b n' : ℕ) → (a + (c + 4)) + all ≤ b + n' → (a + c) + all ≤ b + n'
-less_gained a c all b n' h = omega arith
+pub less_gained : (c all b n' : ℕ) → (c + 4) + all ≤ b + n' → c + all ≤ b + n'
+less_gained c all b n' h = omega arith
 
-pub at_most_spending : (factor a b : ℕ) → 5 ≤ factor → Spending (λ c. at_most (Unit {0}) factor (a + c) b)
-at_most_spending factor a b h = record {
-  counts = λ c. at_most_counts (Unit {0}) factor (a + c) b (one_at_least factor h);
+abbrev pub at_most_spending : (factor b : ℕ) → 5 ≤ factor → Spending (λ c. at_most_each (Unit {0}) factor c b)
+at_most_spending factor b h = record {
+  counts = λ c. at_most_counts (Unit {0}) factor c b (one_at_least factor h);
   next = λ c. c + 4;
-  gain = λ c n n' k. four_gained factor a c b n n' h k;
-  use_four = λ c n n' u k e. four_spent a c (factor * n) b n' u k e;
+  gain = λ c n n' k. four_gained factor c b n n' h k;
+  use_four = λ c n n' u k e. four_spent c (factor * n) b n' u k e;
   cut = λ c n n' k l. tt;
   lost = λ c. tt;
   old_too = λ c x. x;
   new_too = λ c x. x;
-  fewer_spare = λ c n n' k. less_gained a c (factor * n) b n' k;
+  fewer_spare = λ c n n' k. less_gained c (factor * n) b n' k;
   Deep = λ room room'. Unit {0};
   deep_less = λ room room' k. tt;
   deep_old = λ c room' k. tt;

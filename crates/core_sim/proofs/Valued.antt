@@ -19,7 +19,7 @@ use Rattle.core_prog.specs.Programs.{Program, Procedure}
 use Rattle.core_prog.specs.Holdings.{holding, procedure}
 use Rattle.core_prog.specs.Entries.{Argument, entered, left, not_active, result_at}
 use Rattle.core_prog.specs.Terms.{Term, literal, paren, unary, binary, variable, constant, intrinsic, call, Terms, none, more, Designator, designator, Named, named, Section, no_section, section, Passed}
-use Rattle.ftn_tree.specs.Sorts.{Sort, Whole, Truth, Text, sort_of_type, sort_of_value}
+use Rattle.ftn_tree.specs.Sorts.{Sort, Whole, Truth, Text, is_sort, sort_of_type, sort_of_value}
 use Rattle.core_prog.specs.Sorts.{is_scalar, if_so, of_one, of_two, of_intrinsic, ranged, element_sort, count_of, has_range, result_sort, dummies_of, sort_of, sorts_of, are_wholes, is_range, sort_of_designator, sort_of_named, are_passed}
 use Rattle.core_prog.specs.Sorts as sorts
 use Rattle.core_prog.specs.Lawful.{IsLawful}
@@ -48,7 +48,15 @@ ranged_sort r Text sort e = cc e
 ranged_sort r Whole sort e = cc (if_some (not r) (Some Whole) sort e).1
 ranged_sort r Truth sort e = cc (if_some (not r) (Some Truth) sort e).1
 
-element_sorted : (rank n : ℕ) (r : Bool) (s sort : Sort) → element_sort rank n r s ≡ Some sort → s ≡ sort
+-- a substring is a text
+pub ranged_none : (s sort : Sort) → not (is_sort Text (Some sort)) ≡ true → ranged true s ≡ Some sort → ⊥
+ranged_none Whole sort t e = cc e
+ranged_none Truth sort t e = cc e
+ranged_none Text Whole t e = cc e
+ranged_none Text Truth t e = cc e
+ranged_none Text Text t e = cc t
+
+pub element_sorted : (rank n : ℕ) (r : Bool) (s sort : Sort) → element_sort rank n r s ≡ Some sort → s ≡ sort
 element_sorted rank n r s sort e = ranged_sort r s sort (if_some (rank == n) (ranged r s) sort e).1
 
 bytes_sort : (o : Option (List ℕ)) (v : Value) → option_map value.Chars o ≡ Some v → sort_of_value v ≡ Text
