@@ -23,3 +23,4 @@ pub mod Spending
 pub mod Reading
 pub mod Placing
 pub mod Assigning
+pub mod Swapped

@@ -41,6 +41,9 @@ one_unit_taken Integer n h = refl
 one_unit_taken Logical n h = refl
 one_unit_taken (Character m) n h = absurd (cc h)
 
+abbrev Rows : Result (List Holding) End → Result (List Holding) End → Type 0
+Rows r r' = r ≡ r'
+
 module _ (program : Program) where
   -- ---- at an entry
 
@@ -54,6 +57,12 @@ module _ (program : Program) where
   taken_typed : (number : ℕ) (v : Variable) (axes : List Axis) (t : Taken) → slice_get program.variables number ≡ Some v → IsTyped program number (holding_taken v axes t)
   taken_typed number v axes t d = record { variable = v; declared = d; ty = refl; unit = λ q. one_unit_taken v.ty t.unit q }
 
+  held_as : (number : ℕ) (at : Site) (n : ℕ) (g h : Holding) → within at n g ≡ Ok h → IsTyped program number g → IsTyped program number h
+  held_as number at n g h e t = subst (IsTyped program number) (within_ok at n g h e) t
+
+  held_row : (number : ℕ) (numbers : List ℕ) (h : Holding) (hs all : List Holding) → Rows (Ok (h ∷ hs)) (Ok all) → IsTyped program number h → AreTyped program numbers hs → AreTyped program (number ∷ numbers) all
+  held_row number numbers h hs all e t ts = let same : (h ∷ hs) ≡ all = cc e in subst (AreTyped program (number ∷ numbers)) same (t, ts)
+
   held_typed : (at : Site) (m : Memory) (numbers : List ℕ) (ts : List Taken) (hs : List Holding) → held_at program at m numbers ts ≡ Ok hs → AreTyped program numbers hs
   held_typed at m [] ts hs e = tt
   held_typed at m (number ∷ numbers) [] [] e = tt
@@ -63,11 +72,8 @@ module _ (program : Program) where
       let axes = first_ok (axes_at program at m v.0.dimensions) (λ axes. within at t.units (holding_taken v.0 axes t) >>= (λ h. held_at program at m numbers ts >>= (λ hs. Ok (h ∷ hs)))) hs v.2 in
       let h = first_ok (within at t.units (holding_taken v.0 axes.0 t)) (λ h. held_at program at m numbers ts >>= (λ hs. Ok (h ∷ hs))) hs axes.2 in
       let rest = first_ok (held_at program at m numbers ts) (λ hs. Ok (h.0 ∷ hs)) hs h.2 in
-      let same : (h.0 ∷ rest.0) ≡ hs = cc rest.2 in
-      subst (AreTyped program (number ∷ numbers)) same (
-        subst (IsTyped program number) (within_ok at t.units (holding_taken v.0 axes.0 t) h.0 h.1) (taken_typed number v.0 axes.0 t (found_ok (slice_get program.variables number) v.0 v.1)),
-        held_typed at m numbers ts rest.0 rest.1,
-      )
+      held_row number numbers h.0 rest.0 hs rest.2 (held_as number at t.units (holding_taken v.0 axes.0 t) h.0 h.1 (taken_typed number v.0 axes.0 t (found_ok (slice_get program.variables number) v.0 v.1)))
+      (held_typed at m numbers ts rest.0 rest.1)
 
   framed_types : (number : ℕ) (proc : Procedure) (hs : List Holding) (frames : List Frame) → slice_get program.procedures number ≡ Some proc → AreTyped program proc.dummies hs → HasTypes program frames →
       HasTypes program (record { procedure = number; held = hs } ∷ frames)

@@ -7,4 +7,4 @@
 
 mod laws;
 
-pub use laws::{a_call_reads, a_copy_takes_four_steps, alike, keeps, same_units};
+pub use laws::{a_call_reads, a_copy_takes_four_steps, alike, keeps, same_units, swapped_calls};
