@@ -1,30 +1,26 @@
 -- An assignment of a swapped variable and a call of the subroutine that stands for it do the same, under a budget.
-use Rattle.std.proofs.Common.{inl, inr, ◌≡◌, ◌≤◌, ◌+◌, ◌-◌, ◌*◌, ℕ, zero, suc, List, [], ◌∷◌, length, refl, sym, ap, subst, ◌∙◌, arith}
-use Rattle.std.specs.Prelude.{ℤ, Bool, true, false, not, ◌&&◌, slice_get, if◌then◌else◌, Option, Some, None, Result, Ok, Err}
-use Rattle.ftn_base.specs.declared.entity.Ty.{Ty}
-use Rattle.ftn_base.specs.declared.entity.Ty.TheVariants.{Integer, Logical, Character}
+use Rattle.std.proofs.Common.{◌≡◌, ◌≤◌, ◌+◌, ◌-◌, ℕ, zero, suc, List, [], ◌∷◌, length, refl, sym, ap, subst, ◌∙◌, arith}
+use Rattle.std.specs.Prelude.{None, Result, Ok, Err}
 use Rattle.ftn_tree.specs.declared.value.Value.{Value}
-use Rattle.ftn_tree.specs.Sorts.{Sort, Whole, Truth, Text, is_sort, sort_of_type, sort_of_value}
+use Rattle.ftn_tree.specs.Sorts.{sort_of_type, sort_of_value}
 use Rattle.core_prog.specs.declared.site.Site.{Site}
-use Rattle.core_prog.specs.declared.storage.Variable.{Variable}
-use Rattle.core_prog.specs.Ends.{End, Cut, outcome_of, found}
-use Rattle.core_prog.specs.Memory.{Holding, Memory, Place, place_of, read_at, with_value}
+use Rattle.core_prog.specs.Ends.{End, Cut, found}
+use Rattle.core_prog.specs.Memory.{Memory, Place, place_of, read_at, with_value}
 use Rattle.core_prog.specs.Programs.{Program}
-use Rattle.core_prog.specs.Holdings.{holding}
 use Rattle.core_prog.specs.Entries.{Argument, units, own, left}
-use Rattle.core_prog.specs.Terms.{Term, variable, Terms, none, Designator, designator, Section, no_section, Passed, no_passed, by_value, alone}
+use Rattle.core_prog.specs.Terms.{Term, variable, none, Designator, designator, no_section, Passed, no_passed, by_value, alone}
 use Rattle.core_prog.specs.Actions as act
 use Rattle.core_prog.specs.States.{State, Ran, Went, Ended, M, Way, GoOn, goes_on, ◌>>=◌, ◌>>◌, pure, tick, told, asks, puts}
-use Rattle.core_prog.specs.Values.{value_of, place_at, read_of, arguments_of, called, wholes_of, range_of}
+use Rattle.core_prog.specs.Values.{value_of, place_at, read_of, arguments_of, called}
 use Rattle.core_prog.specs.Statements as stmts
 use Rattle.core_prog.specs.Runs.{bodies}
-use Rattle.core_prog.specs.Lasting.{Passes, state_of}
-use Rattle.core_prog.proofs.Passing.{later_same, passes_binds, passes_told, passes_asks, passes_called, bodies_pass, passing}
+use Rattle.core_prog.specs.Lasting.{Passes}
+use Rattle.core_prog.proofs.Passing.{later_same, passes_binds, passes_asks, passes_called, bodies_pass, passing}
 use Rattle.core_sim.specs.Pairings.{Pairing, Swap, partner}
 use Rattle.core_sim.specs.Premises.{Premises}
 use Rattle.core_sim.specs.Swaps.{IsSwap}
 use Rattle.core_sim.specs.Paired.{Meets, HasTypes, Paired, PairedMemory}
-use Rattle.core_sim.specs.Keeping.{Budget, IsFault, Alike}
+use Rattle.core_sim.specs.Keeping.{Budget, Alike}
 use Rattle.core_sim.specs.Copying.{Does, Is, Got, made, whole_of}
 use Rattle.core_sim.proofs.Answering.{Same, Any, Answers, PlaceSame, ok_same, ok_err, err_ok, err_same}
 use Rattle.core_sim.proofs.Doing.{does_binds, does_pure, asked_then, puts_then}

@@ -17,7 +17,7 @@ use Rattle.core_prog.specs.Memory.{Memory}
 use Rattle.core_sim.specs.Paired.{PairedMemory, HasTypes}
 use Rattle.core_sim.proofs.Answering.{Same, Any, Answers, Closed}
 use Rattle.core_sim.proofs.Lodging.{not_active_same}
-use Rattle.core_sim.proofs.Types.{entered_types, types_left}
+use Rattle.core_sim.proofs.HeldTypes.{entered_types, types_left}
 use Rattle.core_sim.proofs.Arrivals.{ArgumentsSame, entered_same, left_same, result_same}
 
 module _ (pairing : Pairing) (old new : Program) (premises : Premises pairing old new) where

@@ -1,6 +1,6 @@
 -- Places of designators of integers and logicals: their type, their one unit, and what is read there.
 use Rattle.std.proofs.Common.{◌≡◌, ◌+◌, ◌-◌, ◌*◌, ℕ, length, refl, sym, ap, subst, ◌∙◌}
-use Rattle.std.specs.Prelude.{ℤ, List, Bool, true, not, ◌&&◌, ◌==◌, slice_get, if◌then◌else◌, Option, Some, None, Result, Ok}
+use Rattle.std.specs.Prelude.{ℤ, List, true, not, ◌&&◌, ◌==◌, slice_get, if◌then◌else◌, Option, Some, None, Ok}
 use Rattle.ftn_base.specs.declared.entity.Ty.{Ty}
 use Rattle.ftn_base.specs.declared.entity.Ty.TheVariants.{Integer, Logical, Character}
 use Rattle.ftn_tree.specs.Arrays.{element, part}
@@ -17,12 +17,11 @@ use Rattle.core_prog.specs.Lawful.{IsLawful}
 use Rattle.core_prog.specs.States as run
 use Rattle.core_prog.specs.States.{State, Ran, Went, Ended, M, Way, goes_on, pure, told, asks}
 use Rattle.core_prog.specs.Values.{wholes_of, range_of, place_at, read_of}
-use Rattle.core_prog.specs.Lasting.{Returns}
 use Rattle.core_sim.specs.Paired.{HasTypes}
 use Rattle.core_sim.specs.Renaming.{site_of}
 use Rattle.core_sim.proofs.Giving.{Gives, gives_binds, gives_told, gives_asks, gives_pure, gives_known}
 use Rattle.core_sim.proofs.Places.{only_one}
-use Rattle.core_sim.proofs.Types.{first_ok, holding_typed}
+use Rattle.core_sim.proofs.HeldTypes.{first_ok, holding_typed}
 use Rattle.core_sim.proofs.Valued.{first_some, if_some, element_sorted, ranged_none, place_type}
 
 -- ---- computations put together

@@ -1,13 +1,13 @@
 -- Reads of a swapped variable, under a budget.
 use Rattle.std.proofs.Common.{◌≡◌, ◌≤◌, ◌+◌, ◌*◌, ℕ, zero, suc, [], length, refl, sym, ap, subst, ◌∙◌, arith}
-use Rattle.std.specs.Prelude.{◌==◌, Bool, true, false, not, ◌&&◌, nat_eq, slice_get, if◌then◌else◌, Option, Some, None, Result, Ok, Err}
+use Rattle.std.specs.Prelude.{◌==◌, Bool, true, false, not, ◌&&◌, nat_eq, slice_get, if◌then◌else◌, Option, Some, None, Ok, Err}
 use Rattle.std.proofs.lemmas.Bool.Decides.{nat_tests}
 use Rattle.ftn_tree.specs.declared.value.Value.{Value}
 use Rattle.core_prog.specs.declared.site.Site.{Site}
 use Rattle.core_prog.specs.declared.storage.Variable.{Variable}
 use Rattle.core_prog.specs.declared.outcome.FaultCode.TheVariants as code
 use Rattle.core_prog.specs.Contents.{units_from, value_in}
-use Rattle.core_prog.specs.Ends.{End, Faulted, Cut, outcome_of, or_end, found}
+use Rattle.core_prog.specs.Ends.{End, Faulted, Cut, or_end, found}
 use Rattle.core_prog.specs.Memory.{Memory, Place, read_at, with_value, place_of}
 use Rattle.core_prog.specs.Holdings.{holding}
 use Rattle.core_prog.specs.Programs.{Program}
@@ -28,7 +28,7 @@ use Rattle.core_sim.specs.Swaps.{IsSwap, is_one_unit}
 use Rattle.core_sim.specs.Paired.{HasTypes, Paired, PairedMemory}
 use Rattle.core_sim.specs.Keeping.{Budget, so_many, no_more, IsFault, Alike, KeepsWithin}
 use Rattle.core_sim.specs.Copying.{Outcome, Does, Is, Got, made, whole_of}
-use Rattle.core_sim.proofs.Answering.{Same, Answers, ok_same, ok_err, err_ok, err_same}
+use Rattle.core_sim.proofs.Answering.{Same, ok_same, ok_err, err_ok, err_same}
 use Rattle.core_sim.proofs.Typed.{Has, has_if, both}
 use Rattle.core_sim.proofs.Doing.{does_binds, does_pure}
 use Rattle.core_sim.proofs.Copying.{read_of_does, call_halts}
@@ -115,7 +115,6 @@ module _ (pairing : Pairing) (old new : Program) (premises : Premises pairing ol
       (read_of_does old body at s.variable u.memory (source_old pairing old new premises s w).h ((source_old pairing old new premises s w).held u.memory) u refl)
       (given_does room at' h u.memory u'.memory x.memory u' refl))
       t t' q l
-
 
   given_halts : (at : Site) (h : ℕ) (m m0 : Memory) → PairedMemory pairing old new h m m0 → Does 4 (Is m0) (called new (bodies new zero) at s.getter [] >>= (λ r. told (found r))) (λ _ _. ⊥) (λ e. e ≡ Cut)
   given_halts at h m m0 paired =

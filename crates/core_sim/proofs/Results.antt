@@ -1,5 +1,5 @@
 -- Operators and intrinsic functions give values of the types that expressions with them have.
-use Rattle.std.proofs.Common.{◌≡◌, ℕ, List, [], ◌∷◌, length, map, refl, sym, ap, ◌∙◌}
+use Rattle.std.proofs.Common.{◌≡◌, ℕ, List, [], ◌∷◌, length, map, sym, ap, ◌∙◌}
 use Rattle.std.specs.Prelude.{ℤ, pos, unsigned_abs, Bool, true, false, if◌then◌else◌, int_le, int_lt, Some, Result, Ok, Err}
 use Rattle.ftn_base.specs.declared.arithmetic.ArithmeticFault.{ArithmeticFault}
 use Rattle.ftn_base.specs.declared.arithmetic.ArithmeticFault.TheVariants as arithmetic
@@ -14,7 +14,7 @@ use Rattle.ftn_tree.specs.declared.operator.Operator.{Operator}
 use Rattle.ftn_tree.specs.declared.operator.Operator.TheVariants as operator
 use Rattle.ftn_tree.specs.Sorts.{Sort, Whole, Truth, Text, sort_of_value}
 use Rattle.ftn_tree.specs.Operations as values
-use Rattle.ftn_tree.specs.Intrinsics.{remainder, signed, lesser, greater, picked, trimmed, index_from, code_of, char_of, count_of, of_number, of_text, of_numbers, of_pair, intrinsic_value}
+use Rattle.ftn_tree.specs.Intrinsics.{remainder, signed, lesser, greater, picked, trimmed, index_from, code_of, char_of, of_number, of_text, of_numbers, of_pair, intrinsic_value}
 use Rattle.core_prog.specs.declared.site.Site.{Site}
 use Rattle.core_prog.specs.Operations.{placed, unary_of, binary_of, intrinsic_of}
 use Rattle.core_prog.specs.Sorts.{if_so, are_all_wholes}

@@ -1,6 +1,6 @@
 -- A call of the subroutine that stands for an assignment of a variable stores what its argument holds.
-use Rattle.std.proofs.Common.{inl, inr, ◌≡◌, ◌≤◌, ◌<◌, ◌⊎◌, ◌+◌, ◌-◌, ◌*◌, ℕ, zero, suc, List, [], ◌∷◌, ◌++◌, length, take, drop, map, refl, sym, ap, subst, ◌∙◌, arith}
-use Rattle.std.specs.Prelude.{Bool, true, false, not, nat_eq, nat_le, slice_get, slice_set, if◌then◌else◌, Option, Some, None, Result, Ok, Err}
+use Rattle.std.proofs.Common.{inl, inr, ◌≡◌, ◌≤◌, ◌<◌, ◌⊎◌, ◌+◌, ◌*◌, ℕ, zero, suc, List, [], ◌∷◌, ◌++◌, length, take, drop, map, refl, sym, ap, subst, ◌∙◌, arith}
+use Rattle.std.specs.Prelude.{Bool, true, false, not, nat_eq, nat_le, slice_get, slice_set, if◌then◌else◌, Option, Some, None, Ok, Err}
 use Rattle.std.specs.Option.{option_map_or}
 use Rattle.std.proofs.lemmas.Bool.Decides.{nat_tests}
 use Rattle.std.proofs.lemmas.List.{length-append, length-take-le}
@@ -13,24 +13,20 @@ use Rattle.core_prog.specs.declared.site.Site.{Site}
 use Rattle.core_prog.specs.declared.outcome.FaultCode.TheVariants as code
 use Rattle.core_prog.specs.declared.storage.Content.{Content}
 use Rattle.core_prog.specs.declared.storage.Content.TheVariants as content
-use Rattle.core_prog.specs.declared.storage.Dimension.{Dimension}
-use Rattle.core_prog.specs.declared.storage.Home.{Home}
 use Rattle.core_prog.specs.declared.storage.Home.TheVariants as home
 use Rattle.core_prog.specs.declared.storage.Variable.{Variable}
-use Rattle.core_prog.specs.Ends.{End, Faulted, ◌>>=◌, or_end, found}
+use Rattle.core_prog.specs.Ends.{Faulted, ◌>>=◌, or_end, found}
 use Rattle.core_prog.specs.Contents.{contents_of, stored, units_from, value_in, units_of}
-use Rattle.ftn_tree.specs.Arrays.{Axis}
-use Rattle.core_prog.specs.Memory.{Holding, Frame, Memory, Place, frame_of, read_at, with_value, place_of}
-use Rattle.core_prog.specs.Programs.{Program, Procedure}
+use Rattle.core_prog.specs.Memory.{Holding, Frame, Memory, Place, frame_of, read_at, with_value}
+use Rattle.core_prog.specs.Programs.{Program}
 use Rattle.core_prog.specs.Holdings.{holding, home_of}
-use Rattle.core_prog.specs.Entries.{Argument, units, own, Taken, taken, own_contents, begun, emptied, axes_at, unit_taken, holding_taken, within, held_at, with_frame, prepared, entered, left}
+use Rattle.core_prog.specs.Entries.{Argument, units, own, Taken, taken, own_contents, begun, emptied, axes_at, holding_taken, within, held_at, with_frame, prepared, entered, left}
 use Rattle.ftn_tree.specs.Sorts.{Text, is_sort, sort_of_type, sort_of_value}
 use Rattle.core_prog.specs.Sorts.{is_scalar}
 use Rattle.core_prog.specs.Lawful.{IsDummyOf}
 use Rattle.core_prog.specs.Values.{called}
 use Rattle.core_prog.specs.Runs.{bodies}
 use Rattle.core_sim.specs.Pairings.{Pairing, Swap, partner}
-use Rattle.core_sim.specs.Units.{units_in}
 use Rattle.core_sim.specs.Swaps.{IsSwap, IsMade}
 use Rattle.core_sim.specs.Premises.{Premises}
 use Rattle.core_sim.specs.Paired.{Meets, Holds, PairedMemory, is_scalar_at}
@@ -40,9 +36,10 @@ use Rattle.core_sim.proofs.Cells.{take_get, length_emptied, same_from}
 use Rattle.core_sim.proofs.Copying.{copy_calls}
 use Rattle.core_sim.proofs.Places.{or_same, place_same, put_memory}
 use Rattle.core_sim.proofs.Typed.{both}
+use Rattle.core_sim.proofs.HeldTypes.{one_unit_taken}
 use Rattle.core_sim.proofs.Lodging.{holding_same}
 use Rattle.core_sim.proofs.Arrivals.{below_or}
-use Rattle.core_sim.proofs.Swapping.{free_at, entry_keeps, source_old, source_new, source_type, the_partner}
+use Rattle.core_sim.proofs.Swapping.{free_at, entry_keeps, source_old, source_new}
 
 -- ---- an argument
 
@@ -54,11 +51,6 @@ took next (own v n) = record { first = next; units = n * units_of v; unit = unit
 taken_one : (next : ℕ) (a : Argument) → taken next (a ∷ []) ≡ took next a ∷ []
 taken_one next (units first n unit) = refl
 taken_one next (own v n) = refl
-
-no_text_unit : (ty : Ty) (n : ℕ) → not (is_sort Text (Some (sort_of_type ty))) ≡ true → unit_taken ty n ≡ 1
-no_text_unit Integer n h = refl
-no_text_unit Logical n h = refl
-no_text_unit (Character m) n h = absurd (cc h)
 
 take_set : {A : Type 0} (n : ℕ) (xs : List A) (c : ℕ) (x : A) → take n (slice_set xs c x) ≡ slice_set (take n xs) c x
 take_set zero [] c x = refl
@@ -172,16 +164,13 @@ module _ (pairing : Pairing) (old new : Program) (premises : Premises pairing ol
   one_held at m t e =
       ap (λ o. found o >>= (λ v. axes_at new at m v.dimensions >>= (λ axes. within at t.units (holding_taken v axes t) >>= (λ h. Ok (h ∷ []))))) w.setter.like.declared
       ∙ ap (λ ds. axes_at new at m ds >>= (λ axes. within at t.units (holding_taken w.setter.like.like axes t) >>= (λ h. Ok (h ∷ [])))) w.setter.like.scalar
-      ∙ ap (λ r. r >>= (λ h. Ok (h ∷ []))) (is_within at t.units (dummy_held t) e (no_text_unit w.setter.like.like.ty t.unit no_text_dummy) refl)
+      ∙ ap (λ r. r >>= (λ h. Ok (h ∷ []))) (is_within at t.units (dummy_held t) e (one_unit_taken w.setter.like.like.ty t.unit no_text_dummy) refl)
 
-  enters : (at : Site) (a : Argument) (m0 : Memory) → (took (length m0.cells) a).units ≡ 1 → entered new at s.setter (w.setter.dummy ∷ []) (a ∷ []) m0 ≡ Ok (in_setter a m0)
-  enters at a m0 e =
+  pub setter_enters : (at : Site) (a : Argument) (m0 : Memory) → (took (length m0.cells) a).units ≡ 1 → entered new at s.setter (w.setter.dummy ∷ []) (a ∷ []) m0 ≡ Ok (in_setter a m0)
+  setter_enters at a m0 e =
       ap (λ ts. held_at new at (with_frame s.setter (map begun ts) (prepared new s.setter (a ∷ []) m0)) (w.setter.dummy ∷ []) ts >>= (λ held. Ok (with_frame s.setter held (prepared new s.setter (a ∷ []) m0)))) (taken_one (length m0.cells) a)
       ∙ ap (λ r. r >>= (λ held. Ok (with_frame s.setter held (prepared new s.setter (a ∷ []) m0))))
       (one_held at (with_frame s.setter (begun (took (length m0.cells) a) ∷ []) (prepared new s.setter (a ∷ []) m0)) (took (length m0.cells) a) e)
-
-  pub setter_enters : (at : Site) (a : Argument) (m0 : Memory) → (took (length m0.cells) a).units ≡ 1 → entered new at s.setter (w.setter.dummy ∷ []) (a ∷ []) m0 ≡ Ok (in_setter a m0)
-  setter_enters at a m0 e = enters at a m0 e
 
   -- the call, in four steps
   pub setter_call : (room : ℕ) (at : Site) (a : Argument) (h : ℕ) (m m0 : Memory) → PairedMemory pairing old new h m m0 → (took (length m0.cells) a).units ≡ 1 →
@@ -197,7 +186,7 @@ module _ (pairing : Pairing) (old new : Program) (premises : Premises pairing ol
         from = w.setter.dummy;
         there = ap found w.setter.there;
         free = free_at pairing old new premises at s.setter h m m0 w.setter.made paired;
-        enters = enters at a m0 one;
+        enters = setter_enters at a m0 one;
       })
       (record {
         target = (source_new pairing old new premises s w).h;
@@ -217,7 +206,7 @@ module _ (pairing : Pairing) (old new : Program) (premises : Premises pairing ol
   dummy_read at t m =
       ap (λ ty. or_end (Faulted code.Undefined at) (value_in ty (units_from (t.first + 0 * (dummy_held t).unit + 0) (dummy_held t).unit m.cells))) w.setter.like.ty
       ∙ ap (λ n. or_end (Faulted code.Undefined at) (value_in w.variable.ty (units_from n (dummy_held t).unit m.cells))) (first_place t.first (dummy_held t).unit)
-      ∙ ap (λ n. or_end (Faulted code.Undefined at) (value_in w.variable.ty (units_from t.first n m.cells))) (no_text_unit w.setter.like.like.ty t.unit no_text_dummy)
+      ∙ ap (λ n. or_end (Faulted code.Undefined at) (value_in w.variable.ty (units_from t.first n m.cells))) (one_unit_taken w.setter.like.like.ty t.unit no_text_dummy)
 
   -- a value of the variable's type
   pub reads_own : (v : Value) (m0 : Memory) → sort_of_value v ≡ sort_of_type w.variable.ty → read_at w.setter.from (whole_of (dummy_held (took (length m0.cells) (own v 1)))) (in_setter (own v 1) m0) ≡ Ok v

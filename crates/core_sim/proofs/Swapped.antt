@@ -1,23 +1,22 @@
 -- Statements and runs of two programs of which the new one calls procedures in place of variables.
-use Rattle.std.proofs.Common.{◌≡◌, ◌≤◌, ◌+◌, ◌*◌, ℕ, zero, suc, List, [], ◌∷◌, length, refl, sym, ap, subst, ◌∙◌, arith}
-use Rattle.std.specs.Prelude.{Bool, true, false, not, ◌&&◌, ◌==◌, slice_get, if◌then◌else◌, Option, Some, None}
+use Rattle.std.proofs.Common.{◌≡◌, ◌≤◌, ◌+◌, ◌*◌, ℕ, zero, suc, length, refl, sym, ap, subst, ◌∙◌, arith}
+use Rattle.std.specs.Prelude.{Bool, true, false, slice_get, Option, Some, None}
 use Rattle.ftn_tree.specs.declared.value.Value.{Value}
-use Rattle.ftn_tree.specs.Sorts.{Sort, Whole, Truth, Text, is_sort, sort_of_type, sort_of_value}
+use Rattle.ftn_tree.specs.Sorts.{Sort, Whole, Truth, Text, is_sort, sort_of_type}
 use Rattle.core_prog.specs.declared.site.Site.{Site}
 use Rattle.core_prog.specs.declared.storage.Variable.{Variable}
 use Rattle.core_prog.specs.Ends.{Cut}
 use Rattle.core_prog.specs.Memory.{Place}
 use Rattle.core_prog.specs.Programs.{Program, Procedure}
 use Rattle.core_prog.specs.Holdings.{procedure}
-use Rattle.core_prog.specs.Entries.{Argument}
 use Rattle.core_prog.specs.Terms.{Term, literal, paren, unary, binary, variable, constant, intrinsic, call, Terms, none, Designator, designator, Section, no_section, Passed, no_passed, by_value, alone}
 use Rattle.core_prog.specs.Actions as act
 use Rattle.core_prog.specs.States.{State, M, Way, GoOn, ◌>>=◌, ◌>>◌, pure, tick, told, puts}
 use Rattle.core_prog.specs.Values.{value_of, place_at, arguments_of, called}
 use Rattle.core_prog.specs.Statements.{block}
 use Rattle.core_prog.specs.Statements as stmts
-use Rattle.core_prog.specs.Runs.{bodies, start, result_of, run}
-use Rattle.core_prog.specs.Sorts.{element_sort, sort_of, sort_of_designator, has_range, count_of}
+use Rattle.core_prog.specs.Runs.{bodies, start}
+use Rattle.core_prog.specs.Sorts.{element_sort, sort_of, sort_of_designator}
 use Rattle.core_prog.specs.Lawful.{agree, has_sort, is_action, is_block}
 use Rattle.core_prog.specs.Lasting.{Passes, state_of}
 use Rattle.core_prog.proofs.Passing.{later_same, passes_binds, passes_tick, passes_called, passing, bodies_pass, blocks_pass, values_pass}
@@ -35,7 +34,7 @@ use Rattle.core_sim.proofs.Answering.{Same, PlaceSame}
 use Rattle.core_sim.proofs.Calls.{ProcedureSame, procedure_same}
 use Rattle.core_sim.proofs.Typed.{Has, some_has, agree_has}
 use Rattle.core_sim.proofs.Places.{only_one}
-use Rattle.core_sim.proofs.Valued.{first_some, if_some, element_sorted, value_sorted}
+use Rattle.core_sim.proofs.Valued.{first_some, element_sorted, value_sorted}
 use Rattle.core_sim.proofs.Placing.{read_placed, place_typed}
 use Rattle.core_sim.proofs.Setting.{no_text}
 use Rattle.core_sim.proofs.Trees.{value_sim, place_sim, block_sim}

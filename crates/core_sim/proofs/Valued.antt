@@ -1,6 +1,6 @@
 -- Values have the types of the expressions that give them, where units of dummy arguments are of their types.
-use Rattle.std.proofs.Common.{◌≡◌, ◌+◌, ◌-◌, ◌*◌, ℕ, zero, suc, List, [], ◌∷◌, length, map, refl, sym, ap, subst, ◌∙◌}
-use Rattle.std.specs.Prelude.{ℤ, Bool, true, false, not, ◌&&◌, ◌==◌, slice_get, if◌then◌else◌, Option, Some, None, Result, Ok, Err}
+use Rattle.std.proofs.Common.{◌≡◌, ◌+◌, ◌-◌, ◌*◌, ℕ, List, [], ◌∷◌, length, map, refl, sym, ap, subst, ◌∙◌}
+use Rattle.std.specs.Prelude.{ℤ, Bool, true, false, not, ◌&&◌, ◌==◌, slice_get, if◌then◌else◌, Option, Some, None, Ok}
 use Rattle.std.specs.Option.{option_map}
 use Rattle.ftn_base.specs.declared.entity.Ty.{Ty}
 use Rattle.ftn_base.specs.declared.entity.Ty.TheVariants.{Integer, Logical, Character}
@@ -13,26 +13,26 @@ use Rattle.core_prog.specs.declared.storage.Content.TheVariants as content
 use Rattle.core_prog.specs.declared.storage.Variable.{Variable}
 use Rattle.core_prog.specs.Ends.{End, Faulted, ◌>>=◌, or_end, found}
 use Rattle.core_prog.specs.Contents.{bytes_of, units_of, units_from, value_in}
-use Rattle.ftn_tree.specs.Arrays.{Axis, axis_from, element, elements, part}
+use Rattle.ftn_tree.specs.Arrays.{axis_from, element, elements, part}
 use Rattle.core_prog.specs.Memory.{Holding, Memory, Place, in_bounds, element_at, place_of, read_at}
 use Rattle.core_prog.specs.Programs.{Program, Procedure}
 use Rattle.core_prog.specs.Holdings.{holding, procedure}
 use Rattle.core_prog.specs.Entries.{Argument, entered, left, not_active, result_at}
-use Rattle.core_prog.specs.Terms.{Term, literal, paren, unary, binary, variable, constant, intrinsic, call, Terms, none, more, Designator, designator, Named, named, Section, no_section, section, Passed}
+use Rattle.core_prog.specs.Terms.{Term, literal, paren, unary, binary, variable, constant, intrinsic, call, Terms, none, more, Designator, designator, Named, named, Section, Passed}
 use Rattle.ftn_tree.specs.Sorts.{Sort, Whole, Truth, Text, is_sort, sort_of_type, sort_of_value}
 use Rattle.core_prog.specs.Sorts.{is_scalar, if_so, of_one, of_two, of_intrinsic, ranged, element_sort, count_of, has_range, result_sort, dummies_of, sort_of, sorts_of, are_wholes, is_range, sort_of_designator, sort_of_named, are_passed}
 use Rattle.core_prog.specs.Sorts as sorts
 use Rattle.core_prog.specs.Lawful.{IsLawful}
 use Rattle.core_prog.specs.States.{M, Way, ◌>>◌, pure, told, asks, remembers}
-use Rattle.core_prog.specs.Values.{value_of, values_of, wholes_of, range_of, place_at, read_of, constant_in, constant_of, arguments_of, called, entering, leaving, cut_out}
+use Rattle.core_prog.specs.Values.{value_of, values_of, wholes_of, range_of, read_of, constant_in, arguments_of, called, entering, leaving, cut_out}
 use Rattle.core_prog.specs.Lasting.{Returns}
 use Rattle.core_prog.proofs.Keeping.{value_kept, arguments_kept}
-use Rattle.core_prog.proofs.Returning.{returning, returns_called}
-use Rattle.core_sim.specs.Paired.{IsTyped, HasTypes}
+use Rattle.core_prog.proofs.Returning.{returning}
+use Rattle.core_sim.specs.Paired.{HasTypes}
 use Rattle.core_sim.proofs.Giving.{Gives, gives_binds, gives_told, gives_asks, gives_pure, gives_remembers, gives_step, gives_known, gives_with, gives_types, types_stay}
 use Rattle.core_sim.proofs.Results.{unary_sort, binary_sort, intrinsic_sort}
 use Rattle.core_sim.proofs.Places.{only_one}
-use Rattle.core_sim.proofs.Types.{first_ok, found_ok, entered_types, holding_typed}
+use Rattle.core_sim.proofs.HeldTypes.{first_ok, found_ok, entered_types, holding_typed}
 
 -- what was asked first is there
 pub first_some : {A B : Type 0} (o : Option A) (f : A → Option B) (b : B) → sorts.◌>>=◌ o f ≡ Some b → (a : A) × (o ≡ Some a) × (f a ≡ Some b)

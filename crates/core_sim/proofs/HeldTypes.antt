@@ -1,12 +1,10 @@
 -- Units are of the type of the variable that they hold, in areas and at the entry of a procedure.
-use Rattle.std.proofs.Common.{◌≡◌, ◌*◌, ℕ, zero, suc, List, [], ◌∷◌, length, drop, map, refl, sym, ap, subst, ◌∙◌}
+use Rattle.std.proofs.Common.{◌≡◌, ◌*◌, ℕ, zero, suc, List, [], ◌∷◌, length, drop, map, refl, sym, subst}
 use Rattle.std.specs.Prelude.{Bool, true, false, not, nat_eq, nat_le, slice_get, if◌then◌else◌, Option, Some, None, Result, Ok, Err}
-use Rattle.std.proofs.lemmas.Bool.Decides.{nat_tests}
 use Rattle.ftn_base.specs.declared.entity.Ty.{Ty}
 use Rattle.ftn_base.specs.declared.entity.Ty.TheVariants.{Integer, Logical, Character}
 use Rattle.core_prog.specs.declared.site.Site.{Site}
 use Rattle.core_prog.specs.declared.outcome.FaultCode.TheVariants as code
-use Rattle.core_prog.specs.declared.storage.Area.{Area}
 use Rattle.core_prog.specs.declared.storage.Home.{Home}
 use Rattle.core_prog.specs.declared.storage.Home.TheVariants as home
 use Rattle.core_prog.specs.declared.storage.Variable.{Variable}
@@ -31,12 +29,12 @@ pub found_ok : {A : Type 0} (o : Option A) (a : A) → found o ≡ Ok a → o �
 found_ok None a e = absurd (cc e)
 found_ok (Some b) a e = cc e
 
-one_unit : (ty : Ty) → not (is_sort Text (Some (sort_of_type ty))) ≡ true → unit_of ty ≡ 1
+pub one_unit : (ty : Ty) → not (is_sort Text (Some (sort_of_type ty))) ≡ true → unit_of ty ≡ 1
 one_unit Integer h = refl
 one_unit Logical h = refl
 one_unit (Character n) h = absurd (cc h)
 
-one_unit_taken : (ty : Ty) (n : ℕ) → not (is_sort Text (Some (sort_of_type ty))) ≡ true → unit_taken ty n ≡ 1
+pub one_unit_taken : (ty : Ty) (n : ℕ) → not (is_sort Text (Some (sort_of_type ty))) ≡ true → unit_taken ty n ≡ 1
 one_unit_taken Integer n h = refl
 one_unit_taken Logical n h = refl
 one_unit_taken (Character m) n h = absurd (cc h)
