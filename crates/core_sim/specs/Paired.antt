@@ -1,8 +1,8 @@
 -- States of two programs that hold the same by a pairing (this project's own).
 use Rattle.std.specs.Prelude.{◌≡◌, ◌≤◌, ◌⊎◌, ℕ, ◌+◌, ◌-◌, ◌*◌, Bool, true, false, List, [], ◌∷◌, length, slice_get, not, Some}
 use Rattle.std.specs.Option.{option_map_or}
-use Rattle.core_prog.specs.declared.storage.Variable.{Variable}
 use Rattle.ftn_tree.specs.Sorts.{Text, is_sort, sort_of_type}
+use Rattle.core_prog.specs.declared.storage.Variable.{Variable}
 use Rattle.core_prog.specs.Sorts.{is_scalar}
 use Rattle.core_prog.specs.Memory.{Holding, Frame, Memory}
 use Rattle.core_prog.specs.Programs.{Program, Procedure}
@@ -14,7 +14,7 @@ use Rattle.core_sim.specs.Units.{units_in, SameUnit}
 abbrev pub is_scalar_at : Program → ℕ → Bool
 is_scalar_at program number = option_map_or is_scalar (slice_get program.variables number) false
 
--- 12.4.1.1: where a variable is the units are of its type; an integer or a logical is one unit
+-- the units of a variable are of its type; an integer or a logical takes one (12.4.1.1, 14.6.3.1)
 pub record IsTyped (program : Program) (number : ℕ) (h : Holding) : Type 0 where
   pub variable : Variable
   pub declared : slice_get program.variables number ≡ Some variable
@@ -26,7 +26,7 @@ module _ (program : Program) where
   AreTyped (number ∷ numbers) (h ∷ hs) = IsTyped program number h × AreTyped numbers hs
   AreTyped numbers hs = Unit {0}
 
-  -- so are the dummy arguments of active procedures
+  -- the units of all dummy arguments of active procedures are of their types
   abbrev pub HasTypes : List Frame → Type 0
   HasTypes [] = Unit {0}
   HasTypes (frame ∷ frames) = ((proc : Procedure) → slice_get program.procedures frame.procedure ≡ Some proc → AreTyped proc.dummies frame.held) × HasTypes frames

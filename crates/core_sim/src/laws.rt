@@ -62,8 +62,8 @@ pub fn a_call_reads()
 /// Where the new program calls a function in place of each read of a variable and a subroutine in place of each assignment to it, and with
 /// five steps for each or more: from paired states statements and expressions of the one and the changed ones of the other print the same,
 /// give the same value or end alike, and leave paired states but after a fault. What takes so many steps in the old one takes at least
-/// as many in the new one, and at most so many for each. Where one is cut it has printed a front of what the
-/// other prints. `alike` says the same of runs.
+/// as many in the new one, and at most so many for each. Where one is cut it has printed a front of what the other prints. `alike` says
+/// the same of runs.
 pub fn swapped_calls()
     ensures statements { (pairing : Pairing) (old new : Program) → Premises pairing old new → (factor : ℕ) → 5 ≤ factor → (unit : Option ℕ) (depth : ℕ) (inside : Bool) (b : Block) → CoversBlock pairing b → is_block old depth inside b ≡ true → KeepsWithin pairing old new (Unit {0}) factor ◌≡◌ (does_in old b) (does_in new (renamed_block pairing (pairing.swap unit) b)) }
     ensures expressions { (pairing : Pairing) (old new : Program) → Premises pairing old new → (factor : ℕ) → 5 ≤ factor → (unit : Option ℕ) (t : Term) → CoversTerm pairing t → has_sort (sort_of old t) ≡ true → KeepsWithin pairing old new (Unit {0}) factor ◌≡◌ (gives_in old t) (gives_in new (renamed_term pairing (pairing.swap unit) t)) }
