@@ -1,12 +1,12 @@
 -- What the two procedures do that stand for a variable: a call of the function takes four steps more than a read, and a call of the subroutine
 -- four steps more than an assignment.
-use Rattle.std.proofs.Common.{◌≡◌, ℕ, suc, List, length, refl, ap, ◌∙◌}
+use Rattle.std.proofs.Common.{inr, ◌≡◌, ℕ, zero, suc, List, length, refl, ap, ◌∙◌}
 use Rattle.std.specs.Prelude.{Option, Ok, Err}
 use Rattle.ftn_tree.specs.declared.value.Value.{Value}
 use Rattle.core_prog.specs.declared.site.Site.{Site}
-use Rattle.core_prog.specs.Ends.{End}
+use Rattle.core_prog.specs.Ends.{End, Cut}
 use Rattle.core_prog.specs.Memory.{Memory, Holding, read_at, with_value}
-use Rattle.core_prog.specs.Programs.{Program}
+use Rattle.core_prog.specs.Programs.{Program, Procedure}
 use Rattle.core_prog.specs.Holdings.{holding, procedure}
 use Rattle.core_prog.specs.Entries.{Argument, not_active, entered, left, result_at}
 use Rattle.core_prog.specs.Terms.{variable, none, designator, no_section}
@@ -76,6 +76,19 @@ module _ (program : Program) (bad : End → Type 0) where
       (does_binds bad 2 1 (Is m1) (Copied at' h g m1) (Got at' h g m0 m1 result) (bodies program (suc room) number) (λ _. leaving program at (made dummies res at1 to at' from) (length m0.cells))
       (told_then bad 2 (Is m1) (Copied at' h g m1) (procedure program number) (made dummies res at1 to at' from) _ there (copies (bodies program room) at1 to at' from m1 h g e f b))
       (leaves at dummies res at1 at' to from m0 m1 h g result c)))))))
+
+-- where the bodies of procedures are cut at once, so is a call that comes to one
+pub call_halts : (program : Program) (at : Site) (number : ℕ) (args : List Argument) (proc : Procedure) (m0 m1 : Memory) → not_active at number m0 ≡ Ok tt → procedure program number ≡ Ok proc → entered program at number proc.dummies args m0 ≡ Ok m1 →
+    Does 4 (Is m0) (called program (bodies program zero) at number args) (λ _ _. ⊥) (λ e. e ≡ Cut)
+call_halts program at number args proc m0 m1 free there enters =
+    asks_then (λ e. e ≡ Cut) 4 m0 (λ _ _. ⊥) (not_active at number) tt _ free
+    (tick_then (λ e. e ≡ Cut) 3 m0 (λ _ _. ⊥) (entering program (bodies program zero) at number args)
+    (told_then (λ e. e ≡ Cut) 3 (Is m0) (λ _ _. ⊥) (procedure program number) proc _ there
+    (asks_then (λ e. e ≡ Cut) 3 m0 (λ _ _. ⊥) (λ memory. Ok (length memory.cells)) (length m0.cells)
+    (λ mark. asks (entered program at number proc.dummies args) >>= (λ inside. remembers inside >> (bodies program zero number >> leaving program at proc mark))) refl
+    (asks_then (λ e. e ≡ Cut) 3 m0 (λ _ _. ⊥) (entered program at number proc.dummies args) m1 _ enters
+    (remembers_then (λ e. e ≡ Cut) 3 m0 m1 (λ _ _. ⊥) (bodies program zero number >> leaving program at proc (length m0.cells))
+    (λ s p. (inr refl, record { input = refl; output = refl })))))))
 
 pub copy_calls : (program : Program) (room : ℕ) (at : Site) (number : ℕ) (args : List Argument) (m0 m1 : Memory) (c : IsCopyCall program at number args m0 m1) (h : AreHeld program at number args m0 m1 c) →
     Does 4 (Is m0) (called program (bodies program (suc room)) at number args) (Got c.from_at h.target h.source m0 m1 h.given) (λ e. read_at c.from_at (whole_of h.source) m1 ≡ Err e)

@@ -94,7 +94,7 @@ behind_lawful = record {
     variables (suc (suc n)) v e = absurd (cc e)
 
 -- a unit by what is declared of its variable
-unit_at : (program : Program) (number unit at : ℕ) (v : Variable) (place offset : ℕ) (owner : Option ℕ) (a : Area) → slice_get program.variables number ≡ Some v → v.home ≡ home.Stored place offset owner → slice_get program.areas place ≡ Some a →
+pub unit_at : (program : Program) (number unit at : ℕ) (v : Variable) (place offset : ℕ) (owner : Option ℕ) (a : Area) → slice_get program.variables number ≡ Some v → v.home ≡ home.Stored place offset owner → slice_get program.areas place ≡ Some a →
     IsUnit program number unit at → (unit < units_of_all program v) × (at ≡ a.start + offset + unit)
 unit_at program number unit at v place offset owner a d h l u =
     let v_same : u.variable ≡ v = only_one (slice_get program.variables number) u.variable v u.declared d in

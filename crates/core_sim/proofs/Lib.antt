@@ -3,16 +3,25 @@ pub mod Sites
 pub mod Cells
 pub mod Counting
 pub mod Places
+pub mod Typed
+pub mod HeldTypes
 pub mod Lodging
 pub mod Arrivals
 pub mod Calls
 pub mod Trees
 pub mod Stepping
 pub mod Runs
-mod Example
-pub mod Typed
+pub mod Example
 pub mod Doing
 pub mod Copying
+pub mod Giving
+pub mod Results
+pub mod Valued
+pub mod Placing
 pub mod Swapping
+pub mod Setting
 pub mod Spending
 pub mod Reading
+pub mod Assigning
+pub mod Swapped
+mod CallsExample

@@ -1,13 +1,13 @@
 -- Reads of a swapped variable, under a budget.
-use Rattle.std.proofs.Common.{◌≡◌, ◌≤◌, ◌+◌, ℕ, suc, [], length, refl, sym, ap, subst, ◌∙◌, arith}
-use Rattle.std.specs.Prelude.{◌==◌, Bool, true, false, not, ◌&&◌, nat_eq, slice_get, if◌then◌else◌, Option, Some, None, Result, Ok, Err}
+use Rattle.std.proofs.Common.{◌≡◌, ◌≤◌, ◌+◌, ◌*◌, ℕ, zero, suc, [], length, refl, sym, ap, subst, ◌∙◌, arith}
+use Rattle.std.specs.Prelude.{◌==◌, Bool, true, false, not, ◌&&◌, nat_eq, slice_get, if◌then◌else◌, Option, Some, None, Ok, Err}
 use Rattle.std.proofs.lemmas.Bool.Decides.{nat_tests}
 use Rattle.ftn_tree.specs.declared.value.Value.{Value}
 use Rattle.core_prog.specs.declared.site.Site.{Site}
 use Rattle.core_prog.specs.declared.storage.Variable.{Variable}
 use Rattle.core_prog.specs.declared.outcome.FaultCode.TheVariants as code
 use Rattle.core_prog.specs.Contents.{units_from, value_in}
-use Rattle.core_prog.specs.Ends.{End, Faulted, outcome_of, or_end, found}
+use Rattle.core_prog.specs.Ends.{End, Faulted, Cut, or_end, found}
 use Rattle.core_prog.specs.Memory.{Memory, Place, read_at, with_value, place_of}
 use Rattle.core_prog.specs.Holdings.{holding}
 use Rattle.core_prog.specs.Programs.{Program}
@@ -21,22 +21,22 @@ use Rattle.core_prog.specs.Values.{value_of, read_of, called}
 use Rattle.core_prog.specs.Runs.{bodies}
 use Rattle.core_prog.specs.Lasting.{Passes}
 use Rattle.core_prog.proofs.Passing.{passes_binds, passes_asks, passes_told, passes_called, bodies_pass}
-use Rattle.core_sim.specs.Pairings.{Pairing, Swap}
+use Rattle.core_sim.specs.Pairings.{Pairing, Swap, partner}
 use Rattle.core_sim.specs.Renaming.{swap_of}
 use Rattle.core_sim.specs.Premises.{Premises}
 use Rattle.core_sim.specs.Swaps.{IsSwap, is_one_unit}
-use Rattle.core_sim.specs.Paired.{Paired, PairedMemory}
+use Rattle.core_sim.specs.Paired.{HasTypes, Paired, PairedMemory}
 use Rattle.core_sim.specs.Keeping.{Budget, so_many, no_more, IsFault, Alike, KeepsWithin}
-use Rattle.core_sim.specs.Copying.{Outcome, Does, Is, Got, whole_of}
-use Rattle.core_sim.proofs.Answering.{Same, Answers}
+use Rattle.core_sim.specs.Copying.{Outcome, Does, Is, Got, made, whole_of}
+use Rattle.core_sim.proofs.Answering.{Same, ok_same, ok_err, err_ok, err_same}
 use Rattle.core_sim.proofs.Typed.{Has, has_if, both}
 use Rattle.core_sim.proofs.Doing.{does_binds, does_pure}
-use Rattle.core_sim.proofs.Copying.{read_of_does}
-use Rattle.core_sim.proofs.Swapping.{source_old, source_new, result_new, in_getter, getter_call, getter_reads, getter_leaves}
-use Rattle.core_sim.proofs.Spending.{Spending, gain_step, four_more, no_more_spending, so_many_spending}
+use Rattle.core_sim.proofs.Copying.{read_of_does, call_halts}
+use Rattle.core_sim.proofs.Swapping.{free_at, source_old, source_new, result_new, in_getter, getter_call, getter_reads, getter_leaves}
+use Rattle.core_sim.proofs.Spending.{Spending, gain_step, four_more, halts, no_more_spending, so_many_spending, at_least, at_least_spending, at_most_each, at_most_spending, costs, same_sum}
 
 -- a read that fails is a fault
-at_fault : (at : Site) (p : Place) (m : Memory) (e : End) → read_at at p m ≡ Err e → IsFault e
+pub at_fault : (at : Site) (p : Place) (m : Memory) (e : End) → read_at at p m ≡ Err e → IsFault e
 at_fault at p m e q = by_value (value_in p.ty (units_from p.first p.units m.cells)) q
   where
     by_value : (o : Option Value) → or_end (Faulted code.Undefined at) o ≡ Err e → IsFault e
@@ -48,7 +48,7 @@ at_fault at p m e q = by_value (value_in p.ty (units_from p.first p.units m.cell
 no_rank : (c : ℕ) (n : ℕ) → (n == 0) ≡ true → (n == (1 + c)) ≡ true → ⊥
 no_rank c n h k = grind (arith, nat_tests)
 
-no_range : (s : Sort) (range : Section) → not (is_sort Text (Some s)) ≡ true → Has (ranged (has_range range) s) → range ≡ no_section
+pub no_range : (s : Sort) (range : Section) → not (is_sort Text (Some s)) ≡ true → Has (ranged (has_range range) s) → range ≡ no_section
 no_range s no_section t h = refl
 no_range Whole (section low high) t h = absurd h
 no_range Truth (section low high) t h = absurd h
@@ -80,22 +80,6 @@ swapped_number (Some t) number s e = by_test (nat_eq t.variable number) (λ q. g
     by_test false f e = absurd (cc e)
 
 module _ (pairing : Pairing) (old new : Program) (premises : Premises pairing old new) (s : Swap) (w : IsSwap pairing old new s) (family : ℕ → Budget) (spending : Spending family) (c : ℕ) where
-  -- an answer that both have
-  ok_same : (r r' : Result Value End) (a b : Value) → Answers Same r r' → r ≡ Ok a → r' ≡ Ok b → a ≡ b
-  ok_same r r' a b h e f = subst (λ x. a ≡ x) refl (both_ok (subst (λ q. Answers Same q r') e h) f)
-    where
-      both_ok : Answers Same (Ok a) r' → r' ≡ Ok b → a ≡ b
-      both_ok h f = subst (λ q. Answers Same (Ok a) q) f h
-
-  ok_err : (r r' : Result Value End) (a : Value) (e : End) → Answers Same r r' → r ≡ Ok a → r' ≡ Err e → ⊥
-  ok_err r r' a e h p q = subst (λ y. Answers Same (Ok a) y) q (subst (λ x. Answers Same x r') p h)
-
-  err_ok : (r r' : Result Value End) (b : Value) (e : End) → Answers Same r r' → r ≡ Err e → r' ≡ Ok b → ⊥
-  err_ok r r' b e h p q = subst (λ y. Answers Same (Err e) y) q (subst (λ x. Answers Same x r') p h)
-
-  err_same : (r r' : Result Value End) (e e' : End) → Answers Same r r' → r ≡ Err e → r' ≡ Err e' → outcome_of e ≡ outcome_of e'
-  err_same r r' e e' h p q = subst (λ y. Answers Same (Err e) y) q (subst (λ x. Answers Same x r') p h)
-
   -- what the call gives as an expression
   abbrev Given : Memory → Value → Memory → Type 0
   Given m0 v m' = (read_at w.getter.from (whole_of (source_new pairing old new premises s w).h) (in_getter pairing old new premises s w m0) ≡ Ok v)
@@ -121,6 +105,7 @@ module _ (pairing : Pairing) (old new : Program) (premises : Premises pairing ol
       (λ a b m m' k k'. (
         ok_same (read_at at (whole_of (source_old pairing old new premises s w).h) u.memory) (read_at w.getter.from (whole_of (source_new pairing old new premises s w).h) (in_getter pairing old new premises s w u'.memory)) a b (getter_reads pairing old new premises s w at h u.memory u'.memory x.memory) k.0 k'.0,
         subst (λ z. PairedMemory pairing old new h z m') (sym k.1) (subst (λ z. PairedMemory pairing old new h u.memory z) (sym k'.1) (getter_leaves pairing old new premises s w h u.memory u'.memory b x.memory k'.0)),
+        subst (λ (z : Memory). HasTypes old z.active) (sym k.1) x.typed,
       ))
       (λ a m e k k'. ok_err (read_at at (whole_of (source_old pairing old new premises s w).h) u.memory) (read_at w.getter.from (whole_of (source_new pairing old new premises s w).h) (in_getter pairing old new premises s w u'.memory)) a e (getter_reads pairing old new premises s w at h u.memory u'.memory x.memory) k.0 k')
       (λ b m e k k'. err_ok (read_at at (whole_of (source_old pairing old new premises s w).h) u.memory) (read_at w.getter.from (whole_of (source_new pairing old new premises s w).h) (in_getter pairing old new premises s w u'.memory)) b e (getter_reads pairing old new premises s w at h u.memory u'.memory x.memory) k' k.0)
@@ -131,17 +116,40 @@ module _ (pairing : Pairing) (old new : Program) (premises : Premises pairing ol
       (given_does room at' h u.memory u'.memory x.memory u' refl))
       t t' q l
 
-read_passes : (program : Program) (body : ℕ → M Way) (at : Site) (number : ℕ) → Passes (read_of program body (designator at number none no_section))
+  given_halts : (at : Site) (h : ℕ) (m m0 : Memory) → PairedMemory pairing old new h m m0 → Does 4 (Is m0) (called new (bodies new zero) at s.getter [] >>= (λ r. told (found r))) (λ _ _. ⊥) (λ e. e ≡ Cut)
+  given_halts at h m m0 paired =
+      does_binds (λ e. e ≡ Cut) 4 0 (Is m0) (λ _ _. ⊥) (λ _ _. ⊥) (called new (bodies new zero) at s.getter []) (λ r. told (found r))
+      (call_halts new at s.getter [] (made [] (Some w.getter.result) w.getter.at w.getter.result w.getter.from (partner pairing.variable s.variable)) m0 (in_getter pairing old new premises s w m0)
+      (free_at pairing old new premises at s.getter h m m0 w.getter.made paired) (ap found w.getter.there) refl) (λ r t q. absurd q)
+
+  -- whatever the number by which the bodies of the new program are defined
+  pub reads_alike_at : (body : ℕ → M Way) (room : ℕ) → (room ≡ zero → (family c).MayCutNew) → (at at' : Site) (h : ℕ) → Passes (read_of old body (designator at s.variable none no_section)) → Passes (called new (bodies new room) at' s.getter [] >>= (λ r. told (found r))) →
+      (t t' : State) → Paired pairing old new h t t' → (family c).Left t.left t'.left → Alike pairing old new (family c) h Same (value_of old body (variable (designator at s.variable none no_section)) t) (value_of new (bodies new room) (call at' s.getter no_passed) t')
+  reads_alike_at body zero may at at' h p p' t t' q l =
+      gain_step pairing old new premises family spending c Same (read_of old body (designator at s.variable none no_section)) (called new (bodies new zero) at' s.getter [] >>= (λ r. told (found r))) p p' h
+      (λ u u' x y. halts pairing old new premises family spending c Same h 4 (read_of old body (designator at s.variable none no_section)) u u' ((called new (bodies new zero) at' s.getter [] >>= (λ r. told (found r))) u') p (may refl) x.output (given_halts at' h u.memory u'.memory x.memory u' refl))
+      t t' q l
+  reads_alike_at body (suc room) may at at' h p p' t t' q l = reads_alike body room at at' h p p' t t' q l
+
+pub read_passes : (program : Program) (body : ℕ → M Way) (at : Site) (number : ℕ) → Passes (read_of program body (designator at number none no_section))
 read_passes program body at number =
     passes_binds (asks (holding program number)) (λ h. told (place_of at h [] None) >>= (λ p. asks (read_at at p))) (passes_asks (holding program number)) (λ h.
     passes_binds (told (place_of at h [] None)) (λ p. asks (read_at at p)) (passes_told (place_of at h [] None)) (λ p. passes_asks (read_at at p)))
 
-call_passes : (program : Program) (room : ℕ) (at : Site) (number : ℕ) → Passes (called program (bodies program room) at number [] >>= (λ r. told (found r)))
+pub call_passes : (program : Program) (room : ℕ) (at : Site) (number : ℕ) → Passes (called program (bodies program room) at number [] >>= (λ r. told (found r)))
 call_passes program room at number = passes_binds (called program (bodies program room) at number []) (λ r. told (found r)) (passes_called program (bodies program room) at number [] (bodies_pass program room number)) (λ r. passes_told (found r))
 
-pub reads_keep : (pairing : Pairing) (old new : Program) → Premises pairing old new → (s : Swap) → IsSwap pairing old new s → (factor : ℕ) → 8 ≤ factor → (room : ℕ) (at at' : Site) →
+pub reads_keep : (pairing : Pairing) (old new : Program) → Premises pairing old new → (s : Swap) → IsSwap pairing old new s → (factor : ℕ) → 5 ≤ factor → (room : ℕ) (at at' : Site) →
     KeepsWithin pairing old new (Unit {0}) factor Same (value_of old (bodies old room) (variable (designator at s.variable none no_section))) (value_of new (bodies new (suc room)) (call at' s.getter no_passed))
 reads_keep pairing old new premises s w factor h room at at' = record {
-  forth = λ height t t' q l. reads_alike pairing old new premises s w (so_many (Unit {0}) factor) (so_many_spending factor h) 0 (bodies old room) room at at' height (read_passes old (bodies old room) at s.variable) (call_passes new (suc room) at' s.getter) t t' q l;
-  back = λ height t t' q l. reads_alike pairing old new premises s w (λ c. no_more (Unit {0})) no_more_spending 0 (bodies old room) room at at' height (read_passes old (bodies old room) at s.variable) (call_passes new (suc room) at' s.getter) t t' q l;
+  forth = λ height t t' q l. under (so_many (Unit {0}) factor) (so_many_spending factor h) 0 height t t' q l;
+  back = λ height t t' q l. under (λ c. no_more (Unit {0})) no_more_spending 0 height t t' q l;
+  steps = λ height t t' q.
+      costs pairing old new (Unit {0}) factor height Same t t' (value_of old (bodies old room) (variable (designator at s.variable none no_section)) t) (value_of new (bodies new (suc room)) (call at' s.getter no_passed) t')
+      (under (λ c. at_least (Unit {0}) t.left t'.left) (at_least_spending t.left t'.left) 0 height t t' q (same_sum t.left t'.left))
+      (under (λ c. at_most_each (Unit {0}) factor c (factor * t.left)) (at_most_spending factor (factor * t.left) h) t'.left height t t' q (same_sum t'.left (factor * t.left)));
 }
+  where
+    under : (family : ℕ → Budget) → Spending family → (c height : ℕ) (t t' : State) → Paired pairing old new height t t' → (family c).Left t.left t'.left →
+        Alike pairing old new (family c) height Same (value_of old (bodies old room) (variable (designator at s.variable none no_section)) t) (value_of new (bodies new (suc room)) (call at' s.getter no_passed) t')
+    under family spending c height t t' q l = reads_alike pairing old new premises s w family spending c (bodies old room) room at at' height (read_passes old (bodies old room) at s.variable) (call_passes new (suc room) at' s.getter) t t' q l

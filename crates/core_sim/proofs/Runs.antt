@@ -33,6 +33,7 @@ use Rattle.core_sim.proofs.Answering.{Same}
 use Rattle.core_sim.proofs.Calls.{ProcedureSame, procedure_same}
 use Rattle.core_sim.proofs.Typed.{some_has}
 use Rattle.core_sim.proofs.Trees.{value_sim, block_sim}
+use Rattle.core_sim.proofs.Spending.{at_least, at_least_counts, at_most_each, at_most_counts, costs, same_sum}
 use Rattle.core_sim.proofs.Stepping.{Counts, equal_counts, no_more_counts, so_many_counts, grows, Rel, closed, lags_old, lags_new, later_front}
 
 -- ---- what is there before a run
@@ -62,7 +63,7 @@ swap_of_none : (o : Option Swap) (number : ℕ) (s : Swap) → o ≡ None → sw
 swap_of_none None number s e f = cc f
 swap_of_none (Some t) number s e f = cc e
 
-module _ (pairing : Pairing) (old new : Program) (premises : Premises pairing old new) (none : HasNoSwap pairing) where
+module _ (pairing : Pairing) (old new : Program) (premises : Premises pairing old new) where
   first_paired : PairedMemory pairing old new 0 (record { cells = first_contents old; active = [] }) (record { cells = first_contents new; active = [] })
   first_paired = record {
     places = none_added (length (first_contents old)) (units_in old) (first_length old.areas);
@@ -77,9 +78,49 @@ module _ (pairing : Pairing) (old new : Program) (premises : Premises pairing ol
           slice_get_past (first_contents old) at (past_all (length (first_contents old)) (units_in old) at u.0 (first_length old.areas) u.1)
           ∙ sym (slice_get_past (first_contents new) at' (past_all (length (first_contents new)) (units_in new) at' u.0 (first_length new.areas) u.2))
 
-  start_paired : (input : List ℕ) (n n' : ℕ) → Paired pairing old new 0 (start old input n) (start new input n')
-  start_paired input n n' = record { memory = first_paired; input = refl; output = refl }
+  pub start_paired : (input : List ℕ) (n n' : ℕ) → Paired pairing old new 0 (start old input n) (start new input n')
+  start_paired input n n' = record { memory = first_paired; typed = tt; input = refl; output = refl }
 
+  -- ---- runs
+
+  abbrev told_as : List ℕ → Outcome → List ℕ → List ℕ → RunResult
+  told_as input o output rest = record { outcome = o; output = output; taken = length input - length rest }
+
+  same_result : (input : List ℕ) (o o' : Outcome) (s s' : State) → o ≡ o' → s.output ≡ s'.output → s.input ≡ s'.input → told_as input o s.output s.input ≡ told_as input o' s'.output s'.input
+  same_result input o o' s s' e f g = ap (λ x. told_as input x s.output s.input) e ∙ ap (λ x. told_as input o' x s.input) f ∙ ap (told_as input o' s'.output) g
+
+  front_of : (input : List ℕ) (r : Ran Way) → (result_of input r).output ≡ (state_of r).output
+  front_of input (Went way s) = refl
+  front_of input (Ended e s) = refl
+
+  -- what was cut is over for want of steps
+  cut_goes_on : (input : List ℕ) (e : End) (s : State) (now : RunResult) → e ≡ Cut → IsFront s.output now.output → GoesOn (told_as input (outcome_of e) s.output s.input) now
+  cut_goes_on input Stopped s now c f = absurd (cc c)
+  cut_goes_on input (Faulted code at) s now c f = absurd (cc c)
+  cut_goes_on input Cut s now c f = f
+
+  end_goes_on : (input : List ℕ) (o o' : Outcome) (s s' : State) → o ≡ o' → s.output ≡ s'.output → s.input ≡ s'.input → GoesOn (told_as input o s.output s.input) (told_as input o' s'.output s'.input)
+  end_goes_on input outcome.Stop o' s s' e f g = sym (same_result input outcome.Stop o' s s' e f g)
+  end_goes_on input (outcome.Fault code) o' s s' e f g = sym (same_result input (outcome.Fault code) o' s s' e f g)
+  end_goes_on input outcome.Spent o' s s' e f g = ([], sym f ∙ sym (append-nil s.output))
+
+  pub forth_on : (lose : Type 0) (factor : ℕ) (input : List ℕ) (r r' : Ran Way) → Alike pairing old new (so_many lose factor 0) 0 Same r r' → GoesOn (result_of input r) (result_of input r')
+  forth_on lose factor input (Went a s) (Went b s') e = end_goes_on input outcome.Stop outcome.Stop s s' refl e.1.paired.output e.1.paired.input
+  forth_on lose factor input (Went a s) (Ended x s') e = absurd e.may_be
+  forth_on lose factor input (Ended x s) (Went b s') e = cut_goes_on input x s (result_of input (Went b s')) e.cut e.front
+  forth_on lose factor input (Ended x s) (Ended x' s') (inl e) = end_goes_on input (outcome_of x) (outcome_of x') s s' e.outcome e.output e.input
+  forth_on lose factor input (Ended x s) (Ended x' s') (inr (inl e)) = cut_goes_on input x s (result_of input (Ended x' s')) e.cut e.front
+  forth_on lose factor input (Ended x s) (Ended x' s') (inr (inr e)) = absurd e.may_be
+
+  pub back_on : (lose : Type 0) (input : List ℕ) (r r' : Ran Way) → Alike pairing old new (no_more lose) 0 Same r r' → GoesOn (result_of input r') (result_of input r)
+  back_on lose input (Went a s) (Went b s') e = end_goes_on input outcome.Stop outcome.Stop s' s refl (sym e.1.paired.output) (sym e.1.paired.input)
+  back_on lose input (Went a s) (Ended x s') e = cut_goes_on input x s' (result_of input (Went a s)) e.cut e.front
+  back_on lose input (Ended x s) (Went b s') e = absurd e.may_be
+  back_on lose input (Ended x s) (Ended x' s') (inl e) = end_goes_on input (outcome_of x') (outcome_of x) s' s (sym e.outcome) (sym e.output) (sym e.input)
+  back_on lose input (Ended x s) (Ended x' s') (inr (inl e)) = absurd e.may_be
+  back_on lose input (Ended x s) (Ended x' s') (inr (inr e)) = cut_goes_on input x' s' (result_of input (Ended x s)) e.cut e.front
+
+module _ (pairing : Pairing) (old new : Program) (premises : Premises pairing old new) (none : HasNoSwap pairing) where
   -- ---- under a budget
 
   module _ (budget : Budget) (counts : Counts budget) where
@@ -120,57 +161,18 @@ module _ (pairing : Pairing) (old new : Program) (premises : Premises pairing ol
         Alike pairing old new budget 0 Same (block old (bodies old room) old.main (start old input n)) (block new (bodies new room') new.main (start new input n'))
     main_keeps room room' q input n n' l =
         subst (λ b. Alike pairing old new budget 0 Same (block old (bodies old room) old.main (start old input n)) (block new (bodies new room') b (start new input n'))) (sym (premises.main ∙ ap (λ o. renamed_block pairing o old.main) (none None)))
-        (blocks_keep room room' q 0 false old.main premises.covered premises.lawful.statements 0 (start old input n) (start new input n') (start_paired input n n') l)
-
-  -- ---- runs
-
-  abbrev told_as : List ℕ → Outcome → List ℕ → List ℕ → RunResult
-  told_as input o output rest = record { outcome = o; output = output; taken = length input - length rest }
-
-  same_result : (input : List ℕ) (o o' : Outcome) (s s' : State) → o ≡ o' → s.output ≡ s'.output → s.input ≡ s'.input → told_as input o s.output s.input ≡ told_as input o' s'.output s'.input
-  same_result input o o' s s' e f g = ap (λ x. told_as input x s.output s.input) e ∙ ap (λ x. told_as input o' x s.input) f ∙ ap (told_as input o' s'.output) g
+        (blocks_keep room room' q 0 false old.main premises.covered premises.lawful.statements 0 (start old input n) (start new input n') (start_paired pairing old new premises input n n') l)
 
   pub runs_same : (input : List ℕ) (n : ℕ) → run old input n ≡ run new input n
   runs_same input n = by_ran (block old (bodies old n) old.main (start old input n)) (block new (bodies new n) new.main (start new input n)) (main_keeps equal_steps equal_counts n n refl input n n refl)
     where
       by_ran : (r r' : Ran Way) → Alike pairing old new equal_steps 0 Same r r' → result_of input r ≡ result_of input r'
-      by_ran (Went a s) (Went b s') e = same_result input outcome.Stop outcome.Stop s s' refl e.1.paired.output e.1.paired.input
+      by_ran (Went a s) (Went b s') e = same_result pairing old new premises input outcome.Stop outcome.Stop s s' refl e.1.paired.output e.1.paired.input
       by_ran (Went a s) (Ended x s') e = absurd e.may_be
       by_ran (Ended x s) (Went b s') e = absurd e.may_be
-      by_ran (Ended x s) (Ended x' s') (inl e) = same_result input (outcome_of x) (outcome_of x') s s' e.outcome e.output e.input
+      by_ran (Ended x s) (Ended x' s') (inl e) = same_result pairing old new premises input (outcome_of x) (outcome_of x') s s' e.outcome e.output e.input
       by_ran (Ended x s) (Ended x' s') (inr (inl e)) = absurd e.may_be
       by_ran (Ended x s) (Ended x' s') (inr (inr e)) = absurd e.may_be
-
-  front_of : (input : List ℕ) (r : Ran Way) → (result_of input r).output ≡ (state_of r).output
-  front_of input (Went way s) = refl
-  front_of input (Ended e s) = refl
-
-  -- what was cut is over for want of steps
-  cut_goes_on : (input : List ℕ) (e : End) (s : State) (now : RunResult) → e ≡ Cut → IsFront s.output now.output → GoesOn (told_as input (outcome_of e) s.output s.input) now
-  cut_goes_on input Stopped s now c f = absurd (cc c)
-  cut_goes_on input (Faulted code at) s now c f = absurd (cc c)
-  cut_goes_on input Cut s now c f = f
-
-  end_goes_on : (input : List ℕ) (o o' : Outcome) (s s' : State) → o ≡ o' → s.output ≡ s'.output → s.input ≡ s'.input → GoesOn (told_as input o s.output s.input) (told_as input o' s'.output s'.input)
-  end_goes_on input outcome.Stop o' s s' e f g = sym (same_result input outcome.Stop o' s s' e f g)
-  end_goes_on input (outcome.Fault code) o' s s' e f g = sym (same_result input (outcome.Fault code) o' s s' e f g)
-  end_goes_on input outcome.Spent o' s s' e f g = ([], sym f ∙ sym (append-nil s.output))
-
-  forth_on : (factor : ℕ) (input : List ℕ) (r r' : Ran Way) → Alike pairing old new (so_many ⊥ factor 0) 0 Same r r' → GoesOn (result_of input r) (result_of input r')
-  forth_on factor input (Went a s) (Went b s') e = end_goes_on input outcome.Stop outcome.Stop s s' refl e.1.paired.output e.1.paired.input
-  forth_on factor input (Went a s) (Ended x s') e = absurd e.may_be
-  forth_on factor input (Ended x s) (Went b s') e = cut_goes_on input x s (result_of input (Went b s')) e.cut e.front
-  forth_on factor input (Ended x s) (Ended x' s') (inl e) = end_goes_on input (outcome_of x) (outcome_of x') s s' e.outcome e.output e.input
-  forth_on factor input (Ended x s) (Ended x' s') (inr (inl e)) = cut_goes_on input x s (result_of input (Ended x' s')) e.cut e.front
-  forth_on factor input (Ended x s) (Ended x' s') (inr (inr e)) = absurd e.may_be
-
-  back_on : (input : List ℕ) (r r' : Ran Way) → Alike pairing old new (no_more ⊥) 0 Same r r' → GoesOn (result_of input r') (result_of input r)
-  back_on input (Went a s) (Went b s') e = end_goes_on input outcome.Stop outcome.Stop s' s refl (sym e.1.paired.output) (sym e.1.paired.input)
-  back_on input (Went a s) (Ended x s') e = cut_goes_on input x s' (result_of input (Went a s)) e.cut e.front
-  back_on input (Ended x s) (Went b s') e = absurd e.may_be
-  back_on input (Ended x s) (Ended x' s') (inl e) = end_goes_on input (outcome_of x') (outcome_of x) s' s (sym e.outcome) (sym e.output) (sym e.input)
-  back_on input (Ended x s) (Ended x' s') (inr (inl e)) = absurd e.may_be
-  back_on input (Ended x s) (Ended x' s') (inr (inr e)) = cut_goes_on input x' s' (result_of input (Ended x s)) e.cut e.front
 
   none_spare : (n : ℕ) → n + 0 ≤ n
   none_spare n = omega arith
@@ -180,9 +182,9 @@ module _ (pairing : Pairing) (old new : Program) (premises : Premises pairing ol
 
   pub alike_within : (factor : ℕ) → 1 ≤ factor → AlikeWithin factor old new
   alike_within factor h input n = (
-    forth_on factor input (block old (bodies old n) old.main (start old input n)) (block new (bodies new (factor * n)) new.main (start new input (factor * n)))
+    forth_on pairing old new premises ⊥ factor input (block old (bodies old n) old.main (start old input n)) (block new (bodies new (factor * n)) new.main (start new input (factor * n)))
         (main_keeps (so_many ⊥ factor 0) (so_many_counts ⊥ factor 0 h) n (factor * n) (grows factor n (factor * n) h refl) input n (factor * n) (none_spare (factor * n))),
-    back_on input (block old (bodies old (factor * n)) old.main (start old input (factor * n))) (block new (bodies new n) new.main (start new input n))
+    back_on pairing old new premises ⊥ input (block old (bodies old (factor * n)) old.main (start old input (factor * n))) (block new (bodies new n) new.main (start new input n))
         (main_keeps (no_more ⊥) (no_more_counts ⊥) (factor * n) n (grows factor n (factor * n) h refl) input (factor * n) n (grows factor n (factor * n) h refl)),
   )
 
@@ -190,12 +192,20 @@ module _ (pairing : Pairing) (old new : Program) (premises : Premises pairing ol
   blocks_keep_within factor h room depth inside b c w = record {
     forth = blocks_keep (so_many ⊥ factor 0) (so_many_counts ⊥ factor 0 h) room room (at_most room) depth inside b c w;
     back = blocks_keep (no_more ⊥) (no_more_counts ⊥) room room (at_most room) depth inside b c w;
+    steps = λ height s s' p.
+        costs pairing old new ⊥ factor height Same s s' (block old (bodies old room) b s) (block new (bodies new room) (renamed_block pairing None b) s')
+        (blocks_keep (at_least ⊥ s.left s'.left) (at_least_counts ⊥ s.left s'.left) room room tt depth inside b c w height s s' p (same_sum s.left s'.left))
+        (blocks_keep (at_most_each ⊥ factor s'.left (factor * s.left)) (at_most_counts ⊥ factor s'.left (factor * s.left) h) room room tt depth inside b c w height s s' p (same_sum s'.left (factor * s.left)));
   }
 
   pub values_keep_within : (factor : ℕ) → 1 ≤ factor → (room : ℕ) (t : Term) → CoversTerm pairing t → has_sort (sort_of old t) ≡ true → KeepsWithin pairing old new ⊥ factor Same (value_of old (bodies old room) t) (value_of new (bodies new room) (renamed_term pairing None t))
   values_keep_within factor h room t c w = record {
     forth = values_keep (so_many ⊥ factor 0) (so_many_counts ⊥ factor 0 h) room room (at_most room) t c w;
     back = values_keep (no_more ⊥) (no_more_counts ⊥) room room (at_most room) t c w;
+    steps = λ height s s' p.
+        costs pairing old new ⊥ factor height Same s s' (value_of old (bodies old room) t s) (value_of new (bodies new room) (renamed_term pairing None t) s')
+        (values_keep (at_least ⊥ s.left s'.left) (at_least_counts ⊥ s.left s'.left) room room tt t c w height s s' p (same_sum s.left s'.left))
+        (values_keep (at_most_each ⊥ factor s'.left (factor * s.left)) (at_most_counts ⊥ factor s'.left (factor * s.left) h) room room tt t c w height s s' p (same_sum s'.left (factor * s.left)));
   }
 
   pub blocks_same : (room : ℕ) (depth : ℕ) (inside : Bool) (b : Block) → CoversBlock pairing b → is_block old depth inside b ≡ true → Keeps pairing old new equal_steps Same (block old (bodies old room) b) (block new (bodies new room) (renamed_block pairing None b))

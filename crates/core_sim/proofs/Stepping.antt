@@ -12,7 +12,7 @@ use Rattle.core_prog.specs.Lasting.{Passes, state_of}
 use Rattle.core_prog.proofs.Passing.{later_same, passes_binds, passes_tick, passes_told, passes_asks, passes_remembers, passes_turns, passing}
 use Rattle.core_sim.specs.Pairings.{Pairing}
 use Rattle.core_sim.specs.Premises.{Premises}
-use Rattle.core_sim.specs.Paired.{Paired, PairedMemory}
+use Rattle.core_sim.specs.Paired.{HasTypes, Paired, PairedMemory}
 use Rattle.core_sim.specs.Keeping.{Budget, equal_steps, so_many, no_more, IsFront, Alike}
 use Rattle.core_sim.proofs.Answering.{Same, Any, Answers, PlaceSame, Closed}
 use Rattle.core_sim.proofs.Places.{put_memory}
@@ -98,7 +98,7 @@ so_many_counts lose factor spare h = record {
 pub front_same : (s : State) → IsFront s.output s.output
 front_same s = ([], sym (append-nil s.output))
 
-front_then : (a b c : List ℕ) → IsFront a b → IsFront b c → IsFront a c
+pub front_then : (a b c : List ℕ) → IsFront a b → IsFront b c → IsFront a c
 front_then a b c h k = (h.0 ++ k.0, k.1 ∙ ap (λ x. x ++ k.0) h.1 ∙ append_assoc a h.0 k.0)
 
 pub later_front : {A : Type 0} (m : M A) → Passes m → (s : State) → IsFront s.output (state_of (m s)).output
@@ -159,17 +159,17 @@ module _ (pairing : Pairing) (old new : Program) (premises : Premises pairing ol
   ticked_alike h (suc n) zero s s' e e' p q =
       record { may_be = counts.none_new n (left_at s.left s'.left (suc n) zero e e' q); cut = refl; front = subst (λ o. IsFront s'.output o) (sym p.output) (front_same s') }
   ticked_alike h (suc n) (suc n') s s' e e' p q =
-      (tt, record { paired = record { memory = p.memory; input = p.input; output = p.output }; left = counts.step n n' (left_at s.left s'.left (suc n) (suc n') e e' q) })
+      (tt, record { paired = record { memory = p.memory; typed = p.typed; input = p.input; output = p.output }; left = counts.step n n' (left_at s.left s'.left (suc n) (suc n') e e' q) })
 
   ticks_rel : {X : Type 0} (h : ℕ) → Rel X h h (Unit {0}) (Unit {0}) Any tick tick
   ticks_rel h = (passes_tick, passes_tick, λ x s s' p q. ticked_alike h s.left s'.left s s' refl refl p q)
 
   asked_rel : {X A B : Type 0} (h : ℕ) (R : A → B → Type 0) (q : Memory → Result A End) (q' : Memory → Result B End) →
-      (X → (m m' : Memory) → PairedMemory pairing old new h m m' → Answers R (q m) (q' m')) → Rel X h h A B R (asks q) (asks q')
-  asked_rel h R q q' f = (passes_asks q, passes_asks q', λ x s s' p l. told_alike h R (q s.memory) (q' s'.memory) (f x s.memory s'.memory p.memory) s s' p l)
+      (X → (m m' : Memory) → PairedMemory pairing old new h m m' → HasTypes old m.active → Answers R (q m) (q' m')) → Rel X h h A B R (asks q) (asks q')
+  asked_rel h R q q' f = (passes_asks q, passes_asks q', λ x s s' p l. told_alike h R (q s.memory) (q' s'.memory) (f x s.memory s'.memory p.memory p.typed) s s' p l)
 
-  remembered_rel : {X : Type 0} (h k : ℕ) (m m' : Memory) → (X → PairedMemory pairing old new k m m') → Rel X h k (Unit {0}) (Unit {0}) Any (remembers m) (remembers m')
-  remembered_rel h k m m' f = (passes_remembers m, passes_remembers m', λ x s s' p l. (tt, record { paired = record { memory = f x; input = p.input; output = p.output }; left = l }))
+  remembered_rel : {X : Type 0} (h k : ℕ) (m m' : Memory) → (X → PairedMemory pairing old new k m m' × HasTypes old m.active) → Rel X h k (Unit {0}) (Unit {0}) Any (remembers m) (remembers m')
+  remembered_rel h k m m' f = (passes_remembers m, passes_remembers m', λ x s s' p l. (tt, record { paired = record { memory = (f x).0; typed = (f x).1; input = p.input; output = p.output }; left = l }))
 
   put_rel : {X : Type 0} (h : ℕ) (p p' : Place) (v v' : Value) → (X → PlaceSame pairing old new p p' × (v ≡ v')) → Rel X h h (Unit {0}) (Unit {0}) Any (puts p v) (puts p' v')
   put_rel {X} h p p' v v' f = (passing.put 0 p v, passing.put 0 p' v', λ x s s' q l. (tt, record { paired = stored x s s' q; left = l }))
@@ -177,14 +177,14 @@ module _ (pairing : Pairing) (old new : Program) (premises : Premises pairing ol
       stored : (x : X) (s s' : State) → Paired pairing old new h s s' → Paired pairing old new h (state_of (puts p v s)) (state_of (puts p' v' s'))
       stored x s s' q =
           subst (λ w. Paired pairing old new h (state_of (puts p v s)) (state_of (puts p' w s'))) (f x).1
-          (record { memory = put_memory pairing old new premises h s.memory s'.memory p p' v q.memory (f x).0; input = q.input; output = q.output })
+          (record { memory = put_memory pairing old new premises h s.memory s'.memory p p' v q.memory (f x).0; typed = q.typed; input = q.input; output = q.output })
 
   emitted_rel : {X : Type 0} (h : ℕ) (bytes bytes' : List ℕ) → (X → bytes ≡ bytes') → Rel X h h (Unit {0}) (Unit {0}) Any (emits bytes) (emits bytes')
   emitted_rel h bytes bytes' f = (
     passing.emitted 0 bytes,
     passing.emitted 0 bytes',
     λ x s s' p l.
-        (tt, record { paired = record { memory = p.memory; input = p.input; output = ap (λ o. o ++ bytes) p.output ∙ ap (λ b. s'.output ++ b) (f x) }; left = l }),
+        (tt, record { paired = record { memory = p.memory; typed = p.typed; input = p.input; output = ap (λ o. o ++ bytes) p.output ∙ ap (λ b. s'.output ++ b) (f x) }; left = l }),
   )
 
   equals_rel : {A C D : Type 0} (h k : ℕ) (X : A → Type 0) (S : C → D → Type 0) (f : A → M C) (g : A → M D) → ((a : A) → Rel (X a) h k C D S (f a) (g a)) → (a b : A) → Rel (X a × (a ≡ b)) h k C D S (f a) (g b)
@@ -197,7 +197,7 @@ module _ (pairing : Pairing) (old new : Program) (premises : Premises pairing ol
 
   byte_alike : (h : ℕ) (byte : ℕ) (bytes : List ℕ) (s s' : State) → Paired pairing old new h s s' → (r r' : Ran (Unit {0})) → Alike pairing old new budget h Any r r' →
       Alike pairing old new budget h Same (goes_on r (λ _ t. Went (Some byte) (record t { input = bytes }))) (goes_on r' (λ _ t. Went (Some byte) (record t { input = bytes })))
-  byte_alike h byte bytes s s' p (Went a t) (Went b u) e = (refl, record { paired = record { memory = e.1.paired.memory; input = refl; output = e.1.paired.output }; left = e.1.left })
+  byte_alike h byte bytes s s' p (Went a t) (Went b u) e = (refl, record { paired = record { memory = e.1.paired.memory; typed = e.1.paired.typed; input = refl; output = e.1.paired.output }; left = e.1.left })
   byte_alike h byte bytes s s' p (Went a t) (Ended x u) e = record { may_be = e.may_be; cut = e.cut; front = e.front }
   byte_alike h byte bytes s s' p (Ended x t) (Went b u) e = record { may_be = e.may_be; cut = e.cut; front = e.front }
   byte_alike h byte bytes s s' p (Ended x t) (Ended y u) e = e

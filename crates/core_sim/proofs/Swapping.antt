@@ -38,6 +38,7 @@ use Rattle.core_sim.proofs.Answering.{Same, Answers}
 use Rattle.core_sim.proofs.Cells.{set_get, replaced, append_get, take_get, same_from, emptied_get, length_emptied, is_eq}
 use Rattle.core_sim.proofs.Places.{unit_below, or_same}
 use Rattle.core_sim.proofs.Typed.{both}
+use Rattle.core_sim.proofs.HeldTypes.{one_unit}
 use Rattle.core_sim.proofs.Arrivals.{not_emptied, below_or}
 
 -- ---- variables in areas
@@ -70,13 +71,8 @@ stored_at program lawful number v d q = by_home v.home refl q (lawful.variables 
     }
     by_home (home.Dummy place position) e q s = absurd (cc q)
 
-no_text : (ty : Ty) → not (is_sort Text (Some (sort_of_type ty))) ≡ true → unit_of ty ≡ 1
-no_text Integer h = refl
-no_text Logical h = refl
-no_text (Character n) h = absurd (cc h)
-
 pub one_of_unit : (v : Variable) → is_one_unit v ≡ true → unit_of v.ty ≡ 1
-one_of_unit v h = no_text v.ty (both (is_scalar v) (not (is_sort Text (Some (sort_of_type v.ty)))) h).1
+one_of_unit v h = one_unit v.ty (both (is_scalar v) (not (is_sort Text (Some (sort_of_type v.ty)))) h).1
 
 set_read : {A : Type 0} (cells : List A) (first : ℕ) (x : A) → first < length cells → take 1 (drop first (slice_set cells first x)) ≡ x ∷ []
 set_read [] first x h = absurd (omega arith)

@@ -118,7 +118,7 @@ module _ (pairing : Pairing) (old new : Program) (premises : Premises pairing ol
     count_same number g g' holds = sym (ap (λ (x : Holding). x.count) holds.same)
 
     holds_at : {X : Type 0} (number : ℕ) → (X → IsPaired pairing.variable number) → R X Holding Holding (Holds pairing old new number) (asks (holding old number)) (asks (holding new (partner pairing.variable number)))
-    holds_at number p = closed.asked h (Holds pairing old new number) (holding old number) (holding new (partner pairing.variable number)) (λ x m m' q. holding_same pairing old new premises number (p x) h m m' q)
+    holds_at number p = closed.asked h (Holds pairing old new number) (holding old number) (holding new (partner pairing.variable number)) (λ x m m' q _. holding_same pairing old new premises number (p x) h m m' q)
 
     abbrev Ranged : Section → Option (ℤ × ℤ) → Option (ℤ × ℤ) → Type 0
     Ranged s r q = (r ≡ q) × (HasNoRange s → r ≡ None)
@@ -180,7 +180,7 @@ module _ (pairing : Pairing) (old new : Program) (premises : Premises pairing ol
           same _ _ _ _ _ (closed.knows h h Same _ _ (λ x. (x.0.1, (both (is_whole old low) (is_whole old high) x.1).1)) (bound_sim (pos n) high)) (λ b.
           closed.tells h (Ranged (section low high)) (Ok (Some (a, b))) (Ok (Some (a, b))) (λ _. (refl, λ p. absurd p))))
 
-      place_sim : (d : Designator) → R (CoversDesignator pairing d × Has (sort_of_designator old d)) Place Place (PlaceSame pairing old new) (place_at old body d) (place_at new body' (renamed_designator pairing swap d))
+      pub place_sim : (d : Designator) → R (CoversDesignator pairing d × Has (sort_of_designator old d)) Place Place (PlaceSame pairing old new) (place_at old body d) (place_at new body' (renamed_designator pairing swap d))
       place_sim (designator at number subscripts range) =
           closed.binds h h h _ _ _ _ _ _ (holds_at number (λ x. x.0.0)) (λ g g'.
           same_with (Fitting subscripts) _ _ _ _ _ (closed.knows h h _ _ _ (λ x. (x.0.0.1, (scalar_parts old number subscripts range x.0.1).0)) (wholes_sim subscripts)) (λ zs.
@@ -201,7 +201,7 @@ module _ (pairing : Pairing) (old new : Program) (premises : Premises pairing ol
           same_with (λ r. HasNoRange range → r ≡ None) _ _ _ _ _ (closed.knows h h _ _ _ (λ x. ((x.0.0.0.2, (scalar_parts old number subscripts range x.0.0.1).1), x.0.1)) (ranges_from range number g g' (λ n. range_sim n range))) (λ r.
           closed.binds h h h _ _ _ _ _ _
           (closed.tells h (PlaceSame pairing old new) _ _ (λ x. place_same pairing old new premises number at (pairing.site at) g g' zs r x.0.0.1 (one_of number subscripts g g' zs (scalar_parts old number subscripts range x.0.0.0.1).2 x.0.0.1 x.0.1))) (λ p p'.
-          closed.asked h Same (read_at at p) (read_at (pairing.site at) p') (λ x m m' q. read_same pairing old new premises h at (pairing.site at) m m' p p' q x.1)))))
+          closed.asked h Same (read_at at p) (read_at (pairing.site at) p') (λ x m m' q _. read_same pairing old new premises h at (pairing.site at) m m' p p' q x.1)))))
 
       constant_sim : (c : Named) → R (CoversNamed pairing c × Has (sort_of_named old c)) Value Value Same (constant_in old body c) (constant_in new body' (renamed_named pairing swap c))
       constant_sim (named at v bounds subscripts range) =
@@ -285,7 +285,7 @@ module _ (pairing : Pairing) (old new : Program) (premises : Premises pairing ol
     tail_sim at at' (suc n) Amid = same _ _ _ _ _ (closed.taken h) (rest_with_sim at at' (rest_of at n) (rest_of at' n) (tail_sim at at' n) Amid)
 
     read_at_sim : {X : Type 0} (at at' : Site) (p p' : Place) → (X → PlaceSame pairing old new p p') → R X Value Value Same (asks (read_at at p)) (asks (read_at at' p'))
-    read_at_sim at at' p p' f = closed.asked h Same (read_at at p) (read_at at' p') (λ x m m' q. read_same pairing old new premises h at at' m m' p p' q (f x))
+    read_at_sim at at' p p' f = closed.asked h Same (read_at at p) (read_at at' p') (λ x m m' q _. read_same pairing old new premises h at at' m m' p p' q (f x))
 
     out_sim : {X : Type 0} (at at' : Site) (number : ℕ) (g g' : Holding) (n more : ℕ) → (X → Holds pairing old new number g g' × (n + more ≤ g.count)) → R X (List Value) (List Value) Same (elements_out at g n more) (elements_out at' g' n more)
     out_sim at at' number g g' n zero f = gives []

@@ -3,8 +3,13 @@ use Rattle.std.specs.Prelude.{◌+◌, ◌≡◌, ◌≤◌, ◌⊎◌, ℕ, ◌
 use Rattle.core_prog.specs.Ends.{End, Faulted, Cut, outcome_of}
 use Rattle.core_prog.specs.Lasting.{GoesOn}
 use Rattle.core_prog.specs.Programs.{Program}
-use Rattle.core_prog.specs.Runs.{run}
-use Rattle.core_prog.specs.States.{State, Ran, Went, Ended, M}
+use Rattle.ftn_tree.specs.declared.value.Value.{Value}
+use Rattle.core_prog.specs.Actions.{Block}
+use Rattle.core_prog.specs.Terms.{Term}
+use Rattle.core_prog.specs.Values.{value_of}
+use Rattle.core_prog.specs.Statements.{block}
+use Rattle.core_prog.specs.Runs.{bodies, run}
+use Rattle.core_prog.specs.States.{State, Ran, Went, Ended, M, Way}
 use Rattle.core_sim.specs.Pairings.{Pairing}
 use Rattle.core_sim.specs.Paired.{Paired}
 
@@ -65,10 +70,23 @@ module _ (pairing : Pairing) (old new : Program) (budget : Budget) where
   abbrev pub Keeps : {A B : Type 0} → (A → B → Type 0) → M A → M B → Type 0
   Keeps Same m m' = (height : ℕ) (s s' : State) → Paired pairing old new height s s' → budget.Left s.left s'.left → Alike height Same (m s) (m' s')
 
+-- where both went on, the new one took at least as many steps as the old one and at most so many for each
+abbrev pub Costs : {A B : Type 0} → ℕ → State → State → Ran A → Ran B → Type 0
+Costs factor s s' (Went a t) (Went b t') = (s.left + t'.left ≤ s'.left + t.left) × (s'.left + factor * t.left ≤ factor * s.left + t'.left)
+Costs factor s s' r r' = Unit {0}
+
 -- with so many steps for each the new computation does what the old one does, and the old one with as many does what the new one does
 pub record KeepsWithin (pairing : Pairing) (old new : Program) (lose : Type 0) (factor : ℕ) {A B : Type 0} (Same : A → B → Type 0) (m : M A) (m' : M B) : Type 0 where
   pub forth : Keeps pairing old new (so_many lose factor 0) Same m m'
   pub back : Keeps pairing old new (no_more lose) Same m m'
+  pub steps : (height : ℕ) (s s' : State) → Paired pairing old new height s s' → Costs factor s s' (m s) (m' s')
+
+-- what statements do and expressions give in a run: the number by which bodies of procedures are defined is that of the steps left
+abbrev pub does_in : Program → Block → M Way
+does_in program b = λ s. block program (bodies program s.left) b s
+
+abbrev pub gives_in : Program → Term → M Value
+gives_in program t = λ s. value_of program (bodies program s.left) t s
 
 -- for every input and number of steps, one program does within so many times the steps what the other does, and the other way round
 abbrev pub AlikeWithin : ℕ → Program → Program → Type 0

@@ -1,6 +1,8 @@
 -- States of two programs that hold the same by a pairing (this project's own).
-use Rattle.std.specs.Prelude.{◌≡◌, ◌≤◌, ◌⊎◌, ℕ, ◌+◌, ◌-◌, ◌*◌, Bool, true, false, List, [], ◌∷◌, length, slice_get, Some}
+use Rattle.std.specs.Prelude.{◌≡◌, ◌≤◌, ◌⊎◌, ℕ, ◌+◌, ◌-◌, ◌*◌, Bool, true, false, List, [], ◌∷◌, length, slice_get, not, Some}
 use Rattle.std.specs.Option.{option_map_or}
+use Rattle.ftn_tree.specs.Sorts.{Text, is_sort, sort_of_type}
+use Rattle.core_prog.specs.declared.storage.Variable.{Variable}
 use Rattle.core_prog.specs.Sorts.{is_scalar}
 use Rattle.core_prog.specs.Memory.{Holding, Frame, Memory}
 use Rattle.core_prog.specs.Programs.{Program, Procedure}
@@ -11,6 +13,23 @@ use Rattle.core_sim.specs.Units.{units_in, SameUnit}
 -- a variable without dimensions
 abbrev pub is_scalar_at : Program → ℕ → Bool
 is_scalar_at program number = option_map_or is_scalar (slice_get program.variables number) false
+
+-- the units of a variable are of its type; an integer or a logical takes one (12.4.1.1, 14.6.3.1)
+pub record IsTyped (program : Program) (number : ℕ) (h : Holding) : Type 0 where
+  pub variable : Variable
+  pub declared : slice_get program.variables number ≡ Some variable
+  pub ty : h.ty ≡ variable.ty
+  pub unit : not (is_sort Text (Some (sort_of_type variable.ty))) ≡ true → h.unit ≡ 1
+
+module _ (program : Program) where
+  abbrev pub AreTyped : List ℕ → List Holding → Type 0
+  AreTyped (number ∷ numbers) (h ∷ hs) = IsTyped program number h × AreTyped numbers hs
+  AreTyped numbers hs = Unit {0}
+
+  -- the units of all dummy arguments of active procedures are of their types
+  abbrev pub HasTypes : List Frame → Type 0
+  HasTypes [] = Unit {0}
+  HasTypes (frame ∷ frames) = ((proc : Procedure) → slice_get program.procedures frame.procedure ≡ Some proc → AreTyped proc.dummies frame.held) × HasTypes frames
 
 module _ (pairing : Pairing) (old new : Program) where
   -- two places are one: the same unit of partners, or the same of the places that arguments were given
@@ -55,5 +74,6 @@ module _ (pairing : Pairing) (old new : Program) where
 
   pub record Paired (height : ℕ) (s s' : State) : Type 0 where
     pub memory : PairedMemory height s.memory s'.memory
+    pub typed : HasTypes old s.memory.active
     pub input : s.input ≡ s'.input
     pub output : s.output ≡ s'.output

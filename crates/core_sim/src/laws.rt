@@ -1,6 +1,6 @@
 //! What holds of two programs that meet the premises.
 
-ghost use Rattle.std.specs.Prelude.{◌≡◌, ◌≤◌, ℕ, suc, Bool, true, List, None, Ok, Err};
+ghost use Rattle.std.specs.Prelude.{◌≡◌, ◌≤◌, ℕ, suc, Bool, true, List, Option, None, Ok, Err};
 ghost use Rattle.core_prog.specs.Actions.{Block};
 ghost use Rattle.core_prog.specs.Lawful.{has_sort, is_block};
 ghost use Rattle.core_prog.specs.Sorts.{sort_of};
@@ -16,7 +16,7 @@ ghost use Rattle.core_prog.specs.Terms.{Term, call, designator, no_passed, no_se
 ghost use Rattle.core_prog.specs.Values.{called, value_of};
 ghost use Rattle.core_sim.specs.Copying.{AreHeld, Does, Got, Is, IsCopyCall, whole_of};
 ghost use Rattle.core_sim.specs.Covering.{CoversBlock, CoversTerm};
-ghost use Rattle.core_sim.specs.Keeping.{AlikeWithin, Keeps, KeepsWithin, equal_steps};
+ghost use Rattle.core_sim.specs.Keeping.{AlikeWithin, Keeps, KeepsWithin, does_in, equal_steps, gives_in};
 ghost use Rattle.core_sim.specs.Pairings.{Pairing, Swap};
 ghost use Rattle.core_sim.specs.Premises.{Premises};
 ghost use Rattle.core_sim.specs.Renaming.{renamed_block, renamed_term};
@@ -38,9 +38,11 @@ pub fn keeps()
     ensures expressions { (pairing : Pairing) (old new : Program) → Premises pairing old new → HasNoSwap pairing → (factor : ℕ) → 1 ≤ factor → (room : ℕ) (t : Term) → CoversTerm pairing t → has_sort (sort_of old t) ≡ true → KeepsWithin pairing old new ⊥ factor ◌≡◌ (value_of old (bodies old room) t) (value_of new (bodies new room) (renamed_term pairing None t)) }
 {}
 
-/// Programs that meet the premises do the same within any number of steps for each, in both directions.
+/// Programs that meet the premises do the same within five steps for each or more, in both directions, and where no procedure is called in
+/// place of a variable within any number of steps for each.
 pub fn alike()
-    ensures { (pairing : Pairing) (old new : Program) → Premises pairing old new → HasNoSwap pairing → (factor : ℕ) → 1 ≤ factor → AlikeWithin factor old new }
+    ensures calls { (pairing : Pairing) (old new : Program) → Premises pairing old new → (factor : ℕ) → 5 ≤ factor → AlikeWithin factor old new }
+    ensures names { (pairing : Pairing) (old new : Program) → Premises pairing old new → HasNoSwap pairing → (factor : ℕ) → 1 ≤ factor → AlikeWithin factor old new }
 {}
 
 /// A read of a scalar takes one step. A call of a procedure that is one assignment of scalars takes four, after those of the arguments: it
@@ -51,8 +53,18 @@ pub fn a_copy_takes_four_steps()
     ensures calls { (program : Program) (room : ℕ) (at : Site) (number : ℕ) (args : List Argument) (m0 m1 : Memory) (c : IsCopyCall program at number args m0 m1) (h : AreHeld program at number args m0 m1 c) → Does 4 (Is m0) (called program (bodies program (suc room)) at number args) (Got c.from_at h.target h.source m0 m1 h.given) (λ e. read_at c.from_at (whole_of h.source) m1 ≡ Err e) }
 {}
 
-/// Where a variable has a swap, a read of it and a call of the function keep within eight steps for each: they give the same value or fail
+/// Where a variable has a swap, a read of it and a call of the function keep within five steps for each: they give the same value or fail
 /// alike, and leave paired states unless they fail.
 pub fn a_call_reads()
-    ensures { (pairing : Pairing) (old new : Program) → Premises pairing old new → (s : Swap) → IsSwap pairing old new s → (factor : ℕ) → 8 ≤ factor → (room : ℕ) (at at' : Site) → KeepsWithin pairing old new (Unit {0}) factor ◌≡◌ (value_of old (bodies old room) (variable (designator at s.variable none no_section))) (value_of new (bodies new (suc room)) (call at' s.getter no_passed)) }
+    ensures { (pairing : Pairing) (old new : Program) → Premises pairing old new → (s : Swap) → IsSwap pairing old new s → (factor : ℕ) → 5 ≤ factor → (room : ℕ) (at at' : Site) → KeepsWithin pairing old new (Unit {0}) factor ◌≡◌ (value_of old (bodies old room) (variable (designator at s.variable none no_section))) (value_of new (bodies new (suc room)) (call at' s.getter no_passed)) }
+{}
+
+/// Where the new program calls a function in place of each read of a variable and a subroutine in place of each assignment to it, and with
+/// five steps for each or more: from paired states statements and expressions of the one and the changed ones of the other print the same,
+/// give the same value or end alike, and leave paired states but after a fault. What takes so many steps in the old one takes at least
+/// as many in the new one, and at most so many for each. Where one is cut it has printed a front of what the other prints. `alike` says
+/// the same of runs.
+pub fn swapped_calls()
+    ensures statements { (pairing : Pairing) (old new : Program) → Premises pairing old new → (factor : ℕ) → 5 ≤ factor → (unit : Option ℕ) (depth : ℕ) (inside : Bool) (b : Block) → CoversBlock pairing b → is_block old depth inside b ≡ true → KeepsWithin pairing old new (Unit {0}) factor ◌≡◌ (does_in old b) (does_in new (renamed_block pairing (pairing.swap unit) b)) }
+    ensures expressions { (pairing : Pairing) (old new : Program) → Premises pairing old new → (factor : ℕ) → 5 ≤ factor → (unit : Option ℕ) (t : Term) → CoversTerm pairing t → has_sort (sort_of old t) ≡ true → KeepsWithin pairing old new (Unit {0}) factor ◌≡◌ (gives_in old t) (gives_in new (renamed_term pairing (pairing.swap unit) t)) }
 {}
