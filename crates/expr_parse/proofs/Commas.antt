@@ -2,6 +2,7 @@
 use Rattle.std.proofs.Common.{◌≡◌, refl, sym, ◌∙◌, ap, subst, arith, ℕ, zero, suc, ◌+◌, ◌≤◌, Bool, true, false, ◌||◌, List, [], ◌∷◌, ◌++◌, length, Option, Some, append_assoc, ◌⊎◌, inl, inr, if◌then◌else◌, add-zero}
 use Rattle.std.proofs.lemmas.Grind.{common_steps}
 use Rattle.std.proofs.lemmas.Option.{some_pair_parts}
+use Rattle.std.proofs.lemmas.List.{append-nil}
 use Rattle.ftn_tree.specs.declared.token.Token.{Token}
 use Rattle.ftn_tree.specs.declared.lexeme.Lexeme.{Lexeme}
 use Rattle.ftn_tree.specs.declared.lexeme.Lexeme.TheVariants.{Comma}
@@ -12,6 +13,7 @@ use Rattle.expr_parse.specs.steps.Combinators.{each_after_comma, each_after_comm
 use Rattle.expr_parse.proofs.Pieces.{Piece, Took, Apart, begins, begins_or, bind_some, bind_is, took_both}
 use Rattle.expr_parse.proofs.Tokens.{only, is_same}
 use Rattle.expr_parse.proofs.Lists.{took_mark}
+use Rattle.expr_parse.proofs.TokenRows.{enough}
 
 module _ {A : Type 0} (piece : Piece A) (apart : Apart (only Comma) piece.more) where
   abbrev pub tail_more : Lexeme → Bool
@@ -30,11 +32,9 @@ module _ {A : Type 0} (piece : Piece A) (apart : Apart (only Comma) piece.more) 
       let same = some_pair_parts found all i j e in
       record {
         items = [];
-        is = sym same.0 ∙ append_none found;
+        is = sym same.0 ∙ sym (append-nil found);
         took = subst (λ j. Took nothing i j) same.1 (record { tokens = []; rest = refl; at = sym (add-zero i.at); says = refl });
-      } where
-        append_none : (found : List A) → found ≡ found ++ []
-        append_none found = grind (arith, common_steps)
+      }
 
   sound_from : (n : ℕ) (found all : List A) (i j : Input) → each_after_comma_from piece.read n found i ≡ Some (all, j) → Found found all i j
   unfolding each_after_comma_from
@@ -72,14 +72,10 @@ module _ {A : Type 0} (piece : Piece A) (apart : Apart (only Comma) piece.more) 
 
   read_none : (n : ℕ) (found : List A) (at : ℕ) (rest : List Token) → begins tail_more rest ≡ false → Reads n found [] at [] rest
   unfolding each_after_comma_from sees
-  read_none zero found at rest stops = ap (λ found. Some (found, input at rest)) (append_none found) ∙ ap (λ place. Some (found ++ [], input place rest)) (sym (add-zero at)) where
-    append_none : (found : List A) → found ≡ found ++ []
-    append_none found = grind (arith, common_steps)
+  read_none zero found at rest stops = ap (λ found. Some (found, input at rest)) (sym (append-nil found)) ∙ ap (λ place. Some (found ++ [], input place rest)) (sym (add-zero at))
   read_none (suc n) found at rest stops =
       ap (λ there. next n found there (after_if there (input at rest))) (begins_or piece.more (only Comma) rest stops).1
-      ∙ ap (λ found. Some (found, input at rest)) (append_none found) ∙ ap (λ place. Some (found ++ [], input place rest)) (sym (add-zero at)) where
-        append_none : (found : List A) → found ≡ found ++ []
-        append_none found = grind (arith, common_steps)
+      ∙ ap (λ found. Some (found, input at rest)) (sym (append-nil found)) ∙ ap (λ place. Some (found ++ [], input place rest)) (sym (add-zero at))
 
   stopped : (items : List A) (at : ℕ) (after rest : List Token) → after_commas piece.phrase items at after → begins tail_more rest ≡ false → begins piece.more (after ++ rest) ≡ false
   stopped items at after rest says stops = by after (comma_first items at after says) where
@@ -121,9 +117,6 @@ module _ {A : Type 0} (piece : Piece A) (apart : Apart (only Comma) piece.more) 
       let onward = complete_from items n (found ++ a ∷ []) ((at + 1) + length before) after rest says_items (few n before after comma (subst (λ tokens. length tokens ≤ suc n) whole small)) stops in
       subst (λ tokens. Reads (suc n) found (a ∷ items) at tokens rest) (sym whole)
       (read_next n found a items at before after rest comma is_comma says_a (stopped items ((at + 1) + length before) after rest says_items stops) onward)
-
-  enough : (tokens rest : List Token) → length tokens ≤ length (tokens ++ rest)
-  enough tokens rest = grind (arith, common_steps)
 
   pub complete_tail : (all : List A) (at : ℕ) (tokens rest : List Token) → after_commas piece.phrase all at tokens → begins tail_more rest ≡ false
       → each_after_comma piece.read (input at (tokens ++ rest)) ≡ Some (all, input (at + length tokens) rest)

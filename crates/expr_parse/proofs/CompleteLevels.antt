@@ -1,5 +1,6 @@
 -- Tokens that have the form of an expression are read as it.
-use Rattle.std.proofs.Common.{◌≡◌, refl, sym, ◌∙◌, ap, subst, arith, lit≤, ℕ, zero, suc, ◌≤◌, ◌<◌, true, false, List, [], ◌∷◌, ◌++◌, length, Some, ◌⊎◌, inl, inr, if◌then◌else◌}
+use Rattle.std.proofs.Common.{◌≡◌, refl, sym, ◌∙◌, ap, subst, arith, lit≤, ℕ, zero, suc, ◌≤◌, ◌<◌, true, false, List, [], ◌∷◌, ◌++◌, length, Some, ◌⊎◌, inl, inr, if◌then◌else◌, le_refl}
+use Rattle.std.proofs.Math.Nat.{le_step}
 use Rattle.ftn_tree.specs.declared.token.Token.{Token}
 use Rattle.ftn_tree.specs.declared.expr.Expr.{Expr}
 use Rattle.ftn_tree.specs.declared.expr.Expr.TheVariants as exprs
@@ -179,9 +180,6 @@ module _ (read : ℕ → Reader Expr) (n : ℕ) (complete : IsComplete read n) w
         none_left : (level left : ℕ) → level ≤ left → left ≡ 0 → level ≡ 0
         none_left level left small e = omega arith
 
-  far_enough : (longer rest turns : ℕ) → rest ≤ longer → longer ≤ turns → rest ≤ turns
-  far_enough longer rest turns a b = omega arith
-
   fewer_turns : (longer left right turns : ℕ) → left ≤ longer → left ≡ suc right → longer ≤ suc turns → right ≤ turns
   fewer_turns longer left right turns a b c = omega arith
 
@@ -231,19 +229,16 @@ module _ (read : ℕ → Reader Expr) (n : ℕ) (complete : IsComplete read n) w
     own_small : (bound : ℕ) → 1 ≤ bound → level ≤ bound → own ≤ bound
     is : reading.level read most i ≡ reading.climb read turns most own (expr_of tree) j
 
-  all_left : (turns : ℕ) → turns ≤ turns
-  all_left turns = omega arith
-
   low_climbs : (tree : Tree) (level most limit : ℕ) (i j : Input) → level ≤ 1 → Took (Spells tree level) i j → length i.rest ≤ suc n → 1 ≤ limit → Stops limit j → Climbs tree level most i j
   unfolding reading.level reading.operators reading.powers
   low_climbs tree level most limit i j low took small some stops = record {
     turns = length j.rest;
     own = 1;
-    enough = all_left (length j.rest);
+    enough = le_refl (length j.rest);
     own_small = λ bound one below. one;
     is = ap (λ sign. reading.level_by read most sign i) (no_sign_before tree level most i j low took)
         ∙ bind_is (reading.powers read i) (reading.operators read most 1) (expr_of tree) j (reading.climb read (length j.rest) most 1 (expr_of tree) j)
-        (chain tree level limit (length i.rest) [] i j low took small (all_left (length i.rest)) some stops) refl;
+        (chain tree level limit (length i.rest) [] i j low took small (le_refl (length i.rest)) some stops) refl;
   }
 
   sign_climbs : (number : ℕ) (operator : Operator) (operand : Tree) (level most limit : ℕ) (i j : Input) → Took (Spells (unary number operator operand) level) i j → length i.rest ≤ suc n → level ≤ most → level ≤ suc limit → Stops limit j → Climbs (unary number operator operand) level most i j
@@ -257,7 +252,7 @@ module _ (read : ℕ → Reader Expr) (n : ℕ) (complete : IsComplete read n) w
       record {
         turns = length j.rest;
         own = how.level;
-        enough = all_left (length j.rest);
+        enough = le_refl (length j.rest);
         own_small = λ bound one below. subst (λ level. level ≤ bound) parts.is_level below;
         is = ap (λ sign. reading.level_by read most sign i) (sign_here most how i parts.op.here parts.operand_at.rest parts.op.row parts.op.says.1 (subst (λ level. level ≤ most) parts.is_level fits))
             ∙ ap (λ next. (read how.operand >>= (λ operand. reading.operators read most how.level (exprs.Unary i.at how.operator operand))) next) parts.op.next
@@ -315,23 +310,16 @@ module _ (read : ℕ → Reader Expr) (n : ℕ) (complete : IsComplete read n) w
       turns_left : (left right last turns : ℕ) → left ≡ suc right → last ≤ right → left ≤ suc turns → last ≤ turns
       turns_left left right last turns a b c = omega arith
 
+  lowest : (level : ℕ) → level ≡ 0 → level ≤ 1
+  lowest level e = omega arith
+
   -- the tree is read, where what follows can't go on with its right edge
   spine : (tree : Tree) (level most limit : ℕ) (i j : Input) → Took (Spells tree level) i j → length i.rest ≤ suc n → level ≤ most → 1 ≤ limit → level ≤ suc limit → Stops limit j → Climbs tree level most i j
-  spine (whole number value) level most limit i j took small fits some edge stops = low_climbs (whole number value) level most limit i j (low level took.says.0) took small some stops where
-    low : (level : ℕ) → level ≡ 0 → level ≤ 1
-    low level e = omega arith
-  spine (truth number value) level most limit i j took small fits some edge stops = low_climbs (truth number value) level most limit i j (low level took.says.0) took small some stops where
-    low : (level : ℕ) → level ≡ 0 → level ≤ 1
-    low level e = omega arith
-  spine (quoted number value) level most limit i j took small fits some edge stops = low_climbs (quoted number value) level most limit i j (low level took.says.0) took small some stops where
-    low : (level : ℕ) → level ≡ 0 → level ≤ 1
-    low level e = omega arith
-  spine (paren number inner) level most limit i j took small fits some edge stops = low_climbs (paren number inner) level most limit i j (low level took.says.0) took small some stops where
-    low : (level : ℕ) → level ≡ 0 → level ≤ 1
-    low level e = omega arith
-  spine (refer number given part) level most limit i j took small fits some edge stops = low_climbs (refer number given part) level most limit i j (low level took.says.0) took small some stops where
-    low : (level : ℕ) → level ≡ 0 → level ≤ 1
-    low level e = omega arith
+  spine (whole number value) level most limit i j took small fits some edge stops = low_climbs (whole number value) level most limit i j (lowest level took.says.0) took small some stops
+  spine (truth number value) level most limit i j took small fits some edge stops = low_climbs (truth number value) level most limit i j (lowest level took.says.0) took small some stops
+  spine (quoted number value) level most limit i j took small fits some edge stops = low_climbs (quoted number value) level most limit i j (lowest level took.says.0) took small some stops
+  spine (paren number inner) level most limit i j took small fits some edge stops = low_climbs (paren number inner) level most limit i j (lowest level took.says.0) took small some stops
+  spine (refer number given part) level most limit i j took small fits some edge stops = low_climbs (refer number given part) level most limit i j (lowest level took.says.0) took small some stops
   spine (unary number operator operand) level most limit i j took small fits some edge stops = sign_climbs number operator operand level most limit i j took small fits edge stops
   spine (binary number operator left right) level most limit i j took small fits some edge stops =
       by parts (λ limit some edge stops. spine left parts.left_level most limit i parts.op_at parts.took_left small (left_fits parts.left_level parts.how.left parts.how.level level most parts.left_small (level_some (lexeme_of parts.op.here) parts.how parts.op.says.1).1 parts.is_level fits) some edge stops)
@@ -368,21 +356,16 @@ module _ (read : ℕ → Reader Expr) (n : ℕ) (complete : IsComplete read n) w
 
   complete_level : IsComplete (reading.level read) (suc n)
   complete_level tree level most i j some took fits small stops =
-      let climbs = spine tree level most most i j took small fits some (edge level most fits) stops in
-      climbs.is ∙ climb_ends climbs.turns most climbs.own (expr_of tree) j stops where
-        edge : (level most : ℕ) → level ≤ most → level ≤ suc most
-        edge level most fits = omega arith
+      let climbs = spine tree level most most i j took small fits some (le_step fits) stops in
+      climbs.is ∙ climb_ends climbs.turns most climbs.own (expr_of tree) j stops
 
 pub complete_read : (n : ℕ) → IsComplete (reading.read n) n
 unfolding reading.read
 complete_read zero tree level most i j some took fits small stops = absurd (begun_some tree level i j took small)
 complete_read (suc n) tree level most i j some took fits small stops = complete_level (reading.read n) n (complete_read n) tree level most i j some took fits small stops
 
-all_of : (n : ℕ) → n ≤ n
-all_of n = omega arith
-
 pub complete_expression : (tree : Tree) (i j : Input) → Took (IsExpression tree) i j → Stops loosest j → reading.expression i ≡ Some (expr_of tree, j)
 unfolding reading.expression
 complete_expression tree i j took stops = by took.says where
   by : IsExpression tree i.at took.tokens → reading.read (length i.rest) loosest i ≡ Some (expr_of tree, j)
-  by (level, fits, says) = complete_read (length i.rest) tree level loosest i j (lit≤ tt) (record { tokens = took.tokens; rest = took.rest; at = took.at; says = says }) fits (all_of (length i.rest)) stops
+  by (level, fits, says) = complete_read (length i.rest) tree level loosest i j (lit≤ tt) (record { tokens = took.tokens; rest = took.rest; at = took.at; says = says }) fits (le_refl (length i.rest)) stops

@@ -1,7 +1,7 @@
 -- Tokens that have the form of a primary are read as it, where this holds of the expressions inside.
-use Rattle.std.proofs.Common.{◌≡◌, refl, sym, ◌∙◌, ap, subst, arith, lit≤, ℕ, zero, suc, ◌≤◌, ℤ, pos, Bool, true, false, List, [], ◌∷◌, ◌++◌, length, Option, Some, None, append_assoc, if◌then◌else◌}
-use Rattle.std.specs.Prelude.{nat_le}
-use Rattle.std.proofs.lemmas.Grind.{common_steps}
+use Rattle.std.proofs.Common.{◌≡◌, refl, sym, ◌∙◌, ap, subst, arith, lit≤, ℕ, zero, suc, ◌≤◌, ℤ, pos, Bool, true, false, List, [], ◌∷◌, ◌++◌, length, Option, Some, None, append_assoc, if◌then◌else◌, le_trans, le_refl}
+use Rattle.std.proofs.lemmas.Bool.{le-leb}
+use Rattle.std.proofs.lemmas.List.{append-nil}
 use Rattle.ftn_base.specs.Limits.{greatest_integer}
 use Rattle.ftn_tree.specs.declared.token.Token.{Token}
 use Rattle.ftn_tree.specs.declared.expr.Expr.{Expr}
@@ -32,12 +32,10 @@ pub whole_is : (at : ℕ) (i j : Input) (here : Token) (number : ℕ) (value : �
     → reading.take_one (reading.whole_at i.at (reading.whole_value here.value)) i ≡ Some (exprs.Whole number value, j)
 unfolding reading.whole_value
 whole_is at i j here number value is_at next is =
-    ap (λ small. reading.take_one (reading.whole_at i.at (if small then Some (pos (number_of here.value)) else None)) i) (fits (number_of here.value) is.small)
+    ap (λ small. reading.take_one (reading.whole_at i.at (if small then Some (pos (number_of here.value)) else None)) i) (le-leb (number_of here.value) greatest_integer is.small)
     ∙ ap (λ number. Some (exprs.Whole number (pos (number_of here.value)), after i)) (sym is_at)
     ∙ ap (λ value. Some (exprs.Whole number value, after i)) (sym is.value_is)
-    ∙ ap (λ next. Some (exprs.Whole number value, next)) next where
-      fits : (n : ℕ) → n ≤ greatest_integer → nat_le n greatest_integer ≡ true
-      fits n small = grind arith
+    ∙ ap (λ next. Some (exprs.Whole number value, next)) next
 
 pub constant_here : (i : Input) (here : Token) (rest : List Token) (kind : Lexeme) → i.rest ≡ here ∷ rest → lexeme_of here ≡ kind → reading.constant i ≡ reading.take_one (reading.constant_by kind i.at here.value) i
 unfolding reading.constant
@@ -45,12 +43,6 @@ constant_here i here rest kind row is = ap (λ row. reading.constant_in row i) r
 
 pub fewer : (longer rest n : ℕ) → longer ≡ suc rest → longer ≤ suc n → rest ≤ n
 fewer longer rest n e small = omega arith
-
-pub as_few : (longer rest n : ℕ) → rest ≤ longer → longer ≤ n → rest ≤ n
-as_few longer rest n e small = omega arith
-
-up : (longer n : ℕ) → longer ≤ n → longer ≤ suc n
-up longer n small = omega arith
 
 module _ (read : ℕ → Reader Expr) (n : ℕ) (complete : IsComplete read n) where
   complete_some : (tree : Tree) (i j : Input) → Took (some_level (Spells tree)) i j → length i.rest ≤ n → Stops loosest j → read loosest i ≡ Some (expr_of tree, j)
@@ -171,9 +163,6 @@ module _ (read : ℕ → Reader Expr) (n : ℕ) (complete : IsComplete read n) w
 
   -- ---- lists
 
-  append_none : (found : List Expr) → found ≡ found ++ []
-  append_none found = grind (arith, common_steps)
-
   item_stops : (rest : Trees) (i j : Input) → Took (SpellsMore rest) i j → peek j ≡ Some lexeme.Close → Stops loosest i
   item_stops none i j took closed = stops_close loosest i (ap peek (took_nothing i j took) ∙ closed)
   item_stops (more next rest) i j took closed =
@@ -186,11 +175,11 @@ module _ (read : ℕ → Reader Expr) (n : ℕ) (complete : IsComplete read n) w
   complete_list : (rest : Trees) (turns : ℕ) (found : List Expr) (i j : Input) → Took (SpellsMore rest) i j → length i.rest ≤ n → length i.rest ≤ turns → peek j ≡ Some lexeme.Close
       → each_after_comma_from (read loosest) turns found i ≡ Some (found ++ exprs_of rest, j)
   unfolding each_after_comma_from
-  complete_list none zero found i j took small enough closed = ap (λ i. Some (found, i)) (took_nothing i j took) ∙ ap (λ all. Some (all, j)) (append_none found)
+  complete_list none zero found i j took small enough closed = ap (λ i. Some (found, i)) (took_nothing i j took) ∙ ap (λ all. Some (all, j)) (sym (append-nil found))
   complete_list none (suc turns) found i j took small enough closed =
       let choice = λ (there : Bool). if there then (read loosest >>= (λ a. each_after_comma_from (read loosest) turns (found ++ a ∷ []))) else pure found in
       ap (λ i. choice (sees lexeme.Comma i) (after_if (sees lexeme.Comma i) i)) (took_nothing i j took)
-      ∙ ap (λ there. choice there (after_if there j)) (close_no_comma j closed) ∙ ap (λ all. Some (all, j)) (append_none found)
+      ∙ ap (λ there. choice there (after_if there j)) (close_no_comma j closed) ∙ ap (λ all. Some (all, j)) (sym (append-nil found))
   complete_list (more next rest) zero found i j took small enough closed =
       let parts = split_took (mark lexeme.Comma) (some_level (Spells next) · SpellsMore rest) i j took in
       absurd (no_turn (length i.rest) (length parts.middle.rest) (took_mark lexeme.Comma i parts.middle parts.first).shorter enough)
@@ -206,8 +195,8 @@ module _ (read : ℕ → Reader Expr) (n : ℕ) (complete : IsComplete read n) w
       ∙ bind_is (read loosest parts.middle) (λ a. each_after_comma_from (read loosest) turns (found ++ a ∷ [])) (expr_of next) items.middle answer
       (complete_some next parts.middle items.middle items.first few (item_stops rest items.middle j items.second closed))
       (complete_list rest turns (found ++ expr_of next ∷ []) items.middle j items.second
-      (as_few (length parts.middle.rest) (length items.middle.rest) n shorter few)
-      (as_few (length parts.middle.rest) (length items.middle.rest) turns shorter (fewer (length i.rest) (length parts.middle.rest) turns comma.shorter enough)) closed)
+      (le_trans shorter few)
+      (le_trans shorter (fewer (length i.rest) (length parts.middle.rest) turns comma.shorter enough)) closed)
       ∙ ap (λ all. Some (all, j)) (append_assoc found (expr_of next ∷ []) (exprs_of rest)) where
         up_one : (longer rest n : ℕ) → longer ≡ suc rest → longer ≤ n → rest ≤ n
         up_one longer rest n e small = omega arith
@@ -255,7 +244,7 @@ module _ (read : ℕ → Reader Expr) (n : ℕ) (complete : IsComplete read n) w
       let p = parts.middle in
       let answer = Some (exprs.Refer number (Some (expr_of first ∷ exprs_of rest)) (part_back part), j) in
       let found = Some (Some (expr_of first), p) in
-      let few = as_few (length k.rest) (length p.rest) n (no_longer (some_level (Spells first)) k p parts.first) small in
+      let few = le_trans (no_longer (some_level (Spells first)) k p parts.first) small in
       let read_first : reading.bound read lexeme.Colon k ≡ found =
       ap (λ there. if there then Some (None, k) else (Some <$> read loosest) k) (some_no_colon first k p parts.first)
       ∙ bind_is (read loosest k) (λ found. pure (Some found)) (expr_of first) p found (complete_some first k p parts.first small (item_stops rest p m parts.second closed.peeked)) refl in
@@ -263,11 +252,9 @@ module _ (read : ℕ → Reader Expr) (n : ℕ) (complete : IsComplete read n) w
       ∙ bind_is (reading.bound read lexeme.Colon k) (reading.group_from read number) (Some (expr_of first)) p answer read_first
       (ap (λ there. if there then reading.with_part read number (Some (expr_of first)) p else reading.args_from read number (expr_of first) p) (list_no_colon rest p m parts.second closed.peeked)
       ∙ bind_is (reading.list_from read (expr_of first) p) (λ list. expect lexeme.Close >> reading.with_args read number list) (expr_of first ∷ exprs_of rest) m answer
-      (complete_list rest (length p.rest) (expr_of first ∷ []) p m parts.second few (all_turns (length p.rest)) closed.peeked)
+      (complete_list rest (length p.rest) (expr_of first ∷ []) p m parts.second few (le_refl (length p.rest)) closed.peeked)
       (bind_is (expect lexeme.Close m) (λ at. reading.with_args read number (expr_of first ∷ exprs_of rest)) m.at l answer closed.expected
-      (complete_with_args number (expr_of first ∷ exprs_of rest) part l j took_part small_part unopened))) where
-        all_turns : (turns : ℕ) → turns ≤ turns
-        all_turns turns = omega arith
+      (complete_with_args number (expr_of first ∷ exprs_of rest) part l j took_part small_part unopened)))
 
   complete_group : (number : ℕ) (given : Args) (part : Section) (i l j : Input) → Took (SpellsArgs given) i l → Took (SpellsSection part) l j → length i.rest ≤ suc n → sees lexeme.Open j ≡ false
       → (if sees lexeme.Open i then reading.group read number else pure (exprs.Refer number None None)) (after_if (sees lexeme.Open i) i) ≡ Some (exprs.Refer number (args_back given) (part_back part), j)
@@ -289,7 +276,7 @@ module _ (read : ℕ → Reader Expr) (n : ℕ) (complete : IsComplete read n) w
       let closed = took_mark lexeme.Close inner.middle l inner.second in
       let same = took_nothing outer.middle inner.middle inner.first in
       ap (λ there. choice there (after_if there i)) opened.seen ∙ ap (λ k. choice true k) opened.next ∙ ap (λ k. choice true k) same
-      ∙ complete_no_args number part inner.middle l j closed took_part (as_few (length i.rest) (length l.rest) (suc n) (no_longer (SpellsArgs (args none)) i l took) small) unopened
+      ∙ complete_no_args number part inner.middle l j closed took_part (le_trans (no_longer (SpellsArgs (args none)) i l took) small) unopened
   complete_group number (args (more first rest)) part i l j took took_part small unopened =
       let choice = λ (there : Bool). if there then reading.group read number else pure (exprs.Refer number None None) in
       let list = some_level (Spells first) · SpellsMore rest in
@@ -299,7 +286,7 @@ module _ (read : ℕ → Reader Expr) (n : ℕ) (complete : IsComplete read n) w
       let closed = took_mark lexeme.Close inner.middle l inner.second in
       ap (λ there. choice there (after_if there i)) opened.seen ∙ ap (λ k. choice true k) opened.next
       ∙ complete_args number first rest part outer.middle inner.middle l j inner.first closed took_part (fewer (length i.rest) (length outer.middle.rest) n opened.shorter small)
-      (as_few (length i.rest) (length l.rest) (suc n) (no_longer (SpellsArgs (args (more first rest))) i l took) small) unopened
+      (le_trans (no_longer (SpellsArgs (args (more first rest))) i l took) small) unopened
 
   pub complete_named : (number : ℕ) (given : Args) (part : Section) (i j : Input) → Took (name number · SpellsArgs given · SpellsSection part) i j → length i.rest ≤ suc n → sees lexeme.Open j ≡ false
       → (peek i ≡ Some lexeme.Word) × (reading.named read i ≡ Some (exprs.Refer number (args_back given) (part_back part), j))
@@ -311,6 +298,6 @@ module _ (read : ℕ → Reader Expr) (n : ℕ) (complete : IsComplete read n) w
       let answer = Some (exprs.Refer i.at (args_back given) (part_back part), j) in (
         named.peeked,
         bind_is (expect lexeme.Word i) (λ number. eat lexeme.Open >>= (λ has_group. if has_group then reading.group read number else pure (exprs.Refer number None None))) i.at outer.middle answer named.expected
-            (complete_group i.at given part outer.middle inner.middle j inner.first inner.second (as_few (length i.rest) (length outer.middle.rest) (suc n) (no_longer (name number) i outer.middle outer.first) small) unopened)
+            (complete_group i.at given part outer.middle inner.middle j inner.first inner.second (le_trans (no_longer (name number) i outer.middle outer.first) small) unopened)
             ∙ ap (λ number. Some (exprs.Refer number (args_back given) (part_back part), j)) (sym is_at),
       )

@@ -1,8 +1,8 @@
 -- How deep parentheses nest is found by counting them.
 use Rattle.std.proofs.Common.{◌≡◌, refl, ap, sym, ◌∙◌, arith, ℕ, zero, suc, ◌+◌, ◌≤◌, ◌<◌, Bool, true, false, ◌||◌, List, [], ◌∷◌, length, take}
 use Rattle.std.specs.Prelude.{nat_lt, filter, cond, IsTrue, ◌↔◌}
-use Rattle.std.proofs.lemmas.Bool.Decides.{nat_tests}
 use Rattle.std.proofs.lemmas.Grind.{common_steps}
+use Rattle.std.proofs.lemmas.Bool.{le-ltb}
 use Rattle.ftn_base.specs.Limits.{most_parentheses}
 use Rattle.ftn_tree.specs.declared.token.Token.{Token}
 use Rattle.ftn_tree.specs.Misfits.{is_open, is_close, IsDeep}
@@ -109,16 +109,13 @@ small_one : (b : Bool) → one_if b ≤ 1
 small_one true = omega arith
 small_one false = omega arith
 
-not_less : (a b : ℕ) → b ≤ a → nat_lt a b ≡ false
-not_less a b le = grind (arith, nat_tests)
-
 few_from : (row : List Token) (opened closed : ℕ) → opened + length row ≤ most_parentheses + closed → deep_from opened closed row ≡ false
 few_from [] opened closed few = refl
 few_from (here ∷ rest) opened closed few =
     let one : one_if (is_open here) ≤ 1 = small_one (is_open here) in
     let le : opened + one_if (is_open here) ≤ most_parentheses + (closed + one_if (is_close here)) = omega arith in
     let more : (opened + one_if (is_open here)) + length rest ≤ most_parentheses + (closed + one_if (is_close here)) = omega arith in
-    ap (λ deep. deep || deep_from (opened + one_if (is_open here)) (closed + one_if (is_close here)) rest) (not_less (most_parentheses + (closed + one_if (is_close here))) (opened + one_if (is_open here)) le)
+    ap (λ deep. deep || deep_from (opened + one_if (is_open here)) (closed + one_if (is_close here)) rest) (le-ltb (most_parentheses + (closed + one_if (is_close here))) (opened + one_if (is_open here)) le)
     ∙ few_from rest (opened + one_if (is_open here)) (closed + one_if (is_close here)) more
 
 -- at most 200 tokens don't nest too deep

@@ -1,6 +1,7 @@
 -- The laws of the readers of expressions and of references.
-use Rattle.std.proofs.Common.{◌≡◌, refl, sym, ◌∙◌, ap, subst, arith, ℕ, suc, ◌+◌, ◌≤◌, true, false, not, List, [], ◌∷◌, ◌++◌, length, Some}
+use Rattle.std.proofs.Common.{◌≡◌, refl, sym, ◌∙◌, ap, subst, ℕ, ◌+◌, true, false, not, List, [], ◌∷◌, ◌++◌, length, Some}
 use Rattle.std.proofs.lemmas.Bool.{not-true, not_from_false}
+use Rattle.std.proofs.Math.Nat.{le-suc}
 use Rattle.ftn_tree.specs.declared.token.Token.{Token}
 use Rattle.ftn_tree.specs.declared.expr.Expr.{Expr, out-Expr}
 use Rattle.ftn_tree.specs.declared.expr.Expr.TheVariants as exprs
@@ -100,9 +101,6 @@ begun_reference found at tokens (is, says) = by (refer_tree found is) where
     by_name (before, after, split, (here, one, (number, is_word)), rest) =
         subst (λ tokens. begins name_first tokens ≡ true) (sym (split ∙ ap (λ before. before ++ after) one)) (ap name_first is_word)
 
-more_than : (n : ℕ) → n ≤ suc n
-more_than n = omega arith
-
 read_reference : (found : Expr) (at : ℕ) (tokens rest : List Token) → grammar.reference found at tokens → begins opens rest ≡ false → reading.reference (input at (tokens ++ rest)) ≡ Some (found, input (at + length tokens) rest)
 unfolding reading.reference
 read_reference found at tokens rest (is, says) stops = by (refer_tree found is) where
@@ -113,7 +111,7 @@ read_reference found at tokens rest (is, says) stops = by (refer_tree found is) 
   by of =
       let phrase = name of.number · SpellsArgs of.list · SpellsSection of.range in
       (complete_named (reading.read turns) turns (complete_read turns) of.number of.list of.range (input at (tokens ++ rest)) (input (at + length tokens) rest)
-      (took_all phrase at tokens rest (reference_says found of at tokens says)) (more_than turns) (unopened (at + length tokens) rest stops)).1
+      (took_all phrase at tokens rest (reference_says found of at tokens says)) (le-suc turns) (unopened (at + length tokens) rest stops)).1
       ∙ ap (λ found. Some (found, input (at + length tokens) rest)) (sym (ap expr_of of.is) ∙ same_expr found)
 
 pub reference_laws : ReadsReferences

@@ -3,6 +3,7 @@ pub mod Chains
 pub mod Pieces
 pub mod AllKinds
 pub mod Tokens
+pub mod TokenRows
 pub mod Lists
 pub mod Parens
 pub mod Ends

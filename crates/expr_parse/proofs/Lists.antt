@@ -12,6 +12,7 @@ use Rattle.expr_parse.specs.steps.Input.{Input, input, Reader, ◌>>=◌, pure, 
 use Rattle.expr_parse.specs.steps.Combinators.{separated, separated_from}
 use Rattle.expr_parse.proofs.Pieces.{Piece, Took, Apart, begins, begins_or, begins_after, bind_some, bind_is, took_both}
 use Rattle.expr_parse.proofs.Tokens.{only, mark_piece, bare_made, is_same}
+use Rattle.expr_parse.proofs.TokenRows.{regrouped, none_left, enough, grown, too_few, after_comma, fewer_later}
 
 -- a mark that is seen is taken
 pub took_mark : (kind : Lexeme) (i : Input) → sees kind i ≡ true → Took (mark kind) i (after i)
@@ -20,13 +21,8 @@ took_mark kind i e =
     let took = (mark_piece kind).sound i i.at (after i) (ap (λ found. taken_if found i) e) in
     record { tokens = took.tokens; rest = took.rest; at = took.at; says = bare_made kind i.at i.at took.tokens took.says }
 
-took_alone : (phrase : Phrase) (i j : Input) → Took phrase i j → Took (phrase · nothing) i j
-took_alone phrase i j took = record { tokens = took.tokens; rest = took.rest; at = took.at; says = (took.tokens, [], nothing_after took.tokens, took.says, refl) } where
-  nothing_after : (tokens : List Token) → tokens ≡ tokens ++ []
-  nothing_after tokens = grind (arith, common_steps)
-
-regrouped : {A : Type 0} (found : List A) (a b : A) (more : List A) → (found ++ a ∷ []) ++ b ∷ more ≡ found ++ a ∷ b ∷ more
-regrouped found a b more = append_assoc found (a ∷ []) (b ∷ more)
+pub took_alone : (phrase : Phrase) (i j : Input) → Took phrase i j → Took (phrase · nothing) i j
+took_alone phrase i j took = record { tokens = took.tokens; rest = took.rest; at = took.at; says = (took.tokens, [], sym (append-nil took.tokens), took.says, refl) }
 
 module _ {A : Type 0} (piece : Piece A) (filled : piece.empty ≡ false) (apart : Apart (only Comma) piece.more) where
   abbrev pub list_more : Lexeme → Bool
@@ -100,9 +96,6 @@ module _ {A : Type 0} (piece : Piece A) (filled : piece.empty ≡ false) (apart 
       (piece.complete a at tokens rest says stop.0)
       (ap (λ there. (if there then separated_from piece.read n (found ++ a ∷ []) else pure (found ++ a ∷ [])) (after_if there (input (at + length tokens) rest))) stop.1)
 
-  moved : (at : ℕ) (before later : List Token) (comma : Token) → ((at + length before) + 1) + length later ≡ at + length (before ++ comma ∷ later)
-  moved at before later comma = grind (arith, common_steps)
-
   -- an item, its comma, and those after it
   complete_next : (n : ℕ) (found : List A) (a b : A) (more : List A) (at : ℕ) (before later rest : List Token) (comma : Token) → piece.phrase a at before → lexeme_of comma ≡ Comma
       → Reads n (found ++ a ∷ []) (b ∷ more) ((at + length before) + 1) later rest → Reads (suc n) found (a ∷ b ∷ more) at (before ++ comma ∷ later) rest
@@ -116,21 +109,7 @@ module _ {A : Type 0} (piece : Piece A) (filled : piece.empty ≡ false) (apart 
       let item = bind_is (piece.read (input at (before ++ (comma ∷ (later ++ rest))))) (turn n found) a place answer (piece.complete a at before (comma ∷ (later ++ rest)) says stop) (again ∙ onward) in
       let joined = subst (λ tokens. separated_from piece.read (suc n) found (input at tokens) ≡ answer) (sym (append_assoc before (comma ∷ later) rest)) item in
       joined ∙ ap (λ all. Some (all, input (((at + length before) + 1) + length later) rest)) (regrouped found a b more)
-      ∙ ap (λ place. Some (found ++ a ∷ b ∷ more, input place rest)) (moved at before later comma)
-
-  few : (n : ℕ) (at : ℕ) (a : A) (before later : List Token) (comma : Token) → length (before ++ comma ∷ later) ≤ suc n → length later ≤ n
-  few n at a before later comma e = grind (arith, common_steps)
-
-  none_left : (tokens before : List Token) → tokens ≡ before ++ [] → before ≡ tokens
-  none_left tokens before e = sym (e ∙ append-nil before)
-
-  too_few : (tokens : List Token) → 1 ≤ length tokens → length tokens ≤ 0 → ⊥
-  too_few tokens e f = grind (arith, common_steps)
-
-  grown : (tokens before after : List Token) → tokens ≡ before ++ after → 1 ≤ length before → 1 ≤ length tokens
-  grown tokens before after split e = subst (λ tokens. 1 ≤ length tokens) (sym split) (longer before after e) where
-    longer : (before after : List Token) → 1 ≤ length before → 1 ≤ length (before ++ after)
-    longer before after e = grind (arith, common_steps)
+      ∙ ap (λ place. Some (found ++ a ∷ b ∷ more, input place rest)) (after_comma at before later comma)
 
   complete_from : (items : List A) (n : ℕ) (found : List A) (a : A) (at : ℕ) (tokens rest : List Token) → (piece.phrase a · after_commas piece.phrase items) at tokens
       → length tokens ≤ n → begins list_more rest ≡ false → Reads n found (a ∷ items) at tokens rest
@@ -142,11 +121,8 @@ module _ {A : Type 0} (piece : Piece A) (filled : piece.empty ≡ false) (apart 
       let whole = split ∙ ap (λ after. before ++ after) (split_after ∙ ap (λ one. one ++ later) is_one) in
       let place = ap (λ one. (at + length before) + length one) is_one in
       let says_b = subst (λ place. (piece.phrase b · after_commas piece.phrase more) place later) place says_later in
-      let onward = complete_from more n (found ++ a ∷ []) b ((at + length before) + 1) later rest says_b (few n at a before later comma (subst (λ tokens. length tokens ≤ suc n) whole small)) stops in
+      let onward = complete_from more n (found ++ a ∷ []) b ((at + length before) + 1) later rest says_b (fewer_later n before later comma (subst (λ tokens. length tokens ≤ suc n) whole small)) stops in
       subst (λ tokens. Reads (suc n) found (a ∷ b ∷ more) at tokens rest) (sym whole) (complete_next n found a b more at before later rest comma says is_comma onward)
-
-  enough : (tokens rest : List Token) → length tokens ≤ length (tokens ++ rest)
-  enough tokens rest = grind (arith, common_steps)
 
   pub complete_list : (all : List A) (at : ℕ) (tokens rest : List Token) → commas piece.phrase all at tokens → begins list_more rest ≡ false
       → separated piece.read (input at (tokens ++ rest)) ≡ Some (all, input (at + length tokens) rest)

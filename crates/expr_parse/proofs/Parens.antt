@@ -39,6 +39,10 @@ module _ {A : Type 0} (piece : Piece A) (filled : piece.empty ≡ false) (apart 
         let took = items.sound i all j (sym (ap (λ none. choice none (after_if none i)) none) ∙ e) in
         record { tokens = took.tokens; rest = took.rest; at = took.at; says = rest_of_items all i.at took.tokens took.says }
 
+  strip : (here : Token) (a : Bool) → (a || (false && only Close (lexeme_of here))) ≡ true → a ≡ true
+  strip here true e = refl
+  strip here false e = e
+
   pub begun_rest : (all : List A) (at : ℕ) (tokens : List Token) → rest_phrase all at tokens → (begins (λ kind. piece.first kind || only Close kind) tokens ≡ true) ⊎ ((tokens ≡ []) × (false ≡ true))
   begun_rest [] at tokens (before, after, split, none, (close, is_one, is_close)) =
       inl (subst (λ tokens. begins (λ kind. piece.first kind || only Close kind) tokens ≡ true) (sym (split ∙ ap (λ before. before ++ after) none ∙ is_one))
@@ -46,10 +50,7 @@ module _ {A : Type 0} (piece : Piece A) (filled : piece.empty ≡ false) (apart 
   begun_rest (a ∷ more) at tokens says = by tokens (items.begun (a ∷ more) at tokens says) where
     by : (tokens : List Token) → (begins items.first tokens ≡ true) ⊎ ((tokens ≡ []) × (items.empty ≡ true)) → (begins (λ kind. piece.first kind || only Close kind) tokens ≡ true) ⊎ ((tokens ≡ []) × (false ≡ true))
     by [] (inl e) = absurd (cc e)
-    by (here ∷ rest) (inl e) = inl (or_left (piece.first (lexeme_of here)) (only Close (lexeme_of here)) (strip (piece.first (lexeme_of here)) e)) where
-      strip : (a : Bool) → (a || (false && only Close (lexeme_of here))) ≡ true → a ≡ true
-      strip true e = refl
-      strip false e = e
+    by (here ∷ rest) (inl e) = inl (or_left (piece.first (lexeme_of here)) (only Close (lexeme_of here)) (strip here (piece.first (lexeme_of here)) e))
     by tokens (inr e) = absurd (cc e.1)
 
   pub complete_rest : (all : List A) (at : ℕ) (tokens rest : List Token) → rest_phrase all at tokens → begins (λ kind. false) rest ≡ false
@@ -67,10 +68,7 @@ module _ {A : Type 0} (piece : Piece A) (filled : piece.empty ≡ false) (apart 
       no_stop (here ∷ rest) = refl
 
     first_of : (here : Token) (tokens : List Token) → begins items.first (here ∷ tokens) ≡ true → only Close (lexeme_of here) ≡ false
-    first_of here tokens e = no_close (lexeme_of here) (strip (piece.first (lexeme_of here)) e) where
-      strip : (a : Bool) → (a || (false && only Close (lexeme_of here))) ≡ true → a ≡ true
-      strip true e = refl
-      strip false e = e
+    first_of here tokens e = no_close (lexeme_of here) (strip here (piece.first (lexeme_of here)) e)
 
     by : (these : List Token) → these ≡ tokens → (begins items.first these ≡ true) ⊎ ((these ≡ []) × (items.empty ≡ true)) → rest_of_list piece.read (input at (tokens ++ rest)) ≡ Some (a ∷ more, input (at + length tokens) rest)
     by [] is (inl e) = absurd (cc e)

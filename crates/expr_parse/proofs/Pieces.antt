@@ -4,6 +4,7 @@ use Rattle.std.proofs.Common.{◌≡◌, refl, sym, ◌∙◌, ap, subst, arith,
 use Rattle.std.proofs.lemmas.Grind.{common_steps}
 use Rattle.std.proofs.lemmas.Option.{some_pair_parts}
 use Rattle.std.proofs.lemmas.Bool.{and_from}
+use Rattle.std.proofs.Math.Bool.{or-true}
 use Rattle.ftn_tree.specs.declared.token.Token.{Token}
 use Rattle.ftn_tree.specs.declared.lexeme.Lexeme.{Lexeme}
 use Rattle.ftn_tree.specs.Lexemes.{lexeme_of, same_lexeme}
@@ -81,13 +82,9 @@ pub begins_left : (one other : Lexeme → Bool) (tokens : List Token) → begins
 begins_left one other [] e = e
 begins_left one other (here ∷ rest) e = ap (λ b. b || other (lexeme_of here)) e
 
-or_true : (a : Bool) → (a || true) ≡ true
-or_true true = refl
-or_true false = refl
-
 pub begins_right : (one other : Lexeme → Bool) (tokens : List Token) → begins other tokens ≡ true → begins (λ kind. one kind || other kind) tokens ≡ true
 begins_right one other [] e = e
-begins_right one other (here ∷ rest) e = ap (λ b. one (lexeme_of here) || b) e ∙ or_true (one (lexeme_of here))
+begins_right one other (here ∷ rest) e = ap (λ b. one (lexeme_of here) || b) e ∙ or-true (one (lexeme_of here))
 
 begins_and : (given : Bool) (kinds : Lexeme → Bool) (tokens : List Token) → given ≡ true → begins kinds tokens ≡ begins (λ kind. given && kinds kind) tokens
 begins_and true kinds tokens e = refl

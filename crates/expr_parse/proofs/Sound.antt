@@ -1,6 +1,7 @@
 -- What is read is the expression of exactly the tokens that were taken.
-use Rattle.std.proofs.Common.{◌≡◌, refl, sym, subst, arith, ℕ, ◌≤◌, pos, Bool, true, false, List, [], ◌∷◌, Option, Some, None, if◌then◌else◌}
+use Rattle.std.proofs.Common.{◌≡◌, refl, sym, subst, ℕ, pos, Bool, true, false, List, [], ◌∷◌, Option, Some, None, if◌then◌else◌}
 use Rattle.std.specs.Prelude.{nat_le}
+use Rattle.std.proofs.lemmas.Bool.{leb-true}
 use Rattle.ftn_base.specs.Limits.{greatest_integer}
 use Rattle.ftn_tree.specs.declared.token.Token.{Token}
 use Rattle.ftn_tree.specs.declared.expr.Expr.{Expr}
@@ -34,9 +35,7 @@ module _ (i : Input) (here : Token) (rest : List Token) (row : i.rest ≡ here �
   read_whole kind true small e =
       let value = pos (number_of here.value) in
       read_as (whole i.at value) (λ at here. (i.at ≡ at) × IsNumber here value) (exprs.Whole i.at value) (tree_whole i.at value) (λ at tokens says. (refl, says))
-      (refl, record { digits = kind; value_is = refl; small = below (number_of here.value) small }) e where
-        below : (n : ℕ) → nat_le n greatest_integer ≡ true → n ≤ greatest_integer
-        below n small = grind arith
+      (refl, record { digits = kind; value_is = refl; small = leb-true (number_of here.value) greatest_integer small }) e
   read_whole kind false small e = absurd (cc e)
 
   read_truth : (value : Bool) → lexeme_of here ≡ truth_lexeme value → ◌≡◌ {A = Option (Expr × Input)} (Some (exprs.Truth i.at value, after i)) (Some (found, j)) → Took (Spells (tree_of found) 0) i j

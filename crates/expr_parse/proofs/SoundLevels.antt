@@ -1,5 +1,5 @@
 -- What is read of any level is of its form.
-use Rattle.std.proofs.Common.{◌≡◌, refl, sym, ◌∙◌, ap, subst, arith, lit≤, ℕ, zero, suc, ◌≤◌, Bool, true, false, List, [], ◌∷◌, ◌++◌, length, Option, Some, None, if◌then◌else◌}
+use Rattle.std.proofs.Common.{◌≡◌, refl, sym, ◌∙◌, ap, subst, arith, lit≤, ℕ, zero, suc, ◌≤◌, Bool, true, false, List, [], ◌∷◌, ◌++◌, length, Option, Some, None, if◌then◌else◌, le_trans, le_refl}
 use Rattle.std.proofs.lemmas.Option.{some_pair_parts}
 use Rattle.ftn_tree.specs.declared.expr.Expr.{Expr}
 use Rattle.ftn_tree.specs.declared.expr.Expr.TheVariants as exprs
@@ -70,18 +70,12 @@ module _ (read : ℕ → Reader Expr) (sound : IsSound read) where
   found_upto : (most level : ℕ) (made found : Expr) (i j k : Input) → level ≤ most → Took (Spells (tree_of made) level) i j → ◌≡◌ {A = Option (Expr × Input)} (Some (made, j)) (Some (found, k)) → Upto most found i k
   found_upto most level made found i j k small took got = record { level = level; small = small; took = given (λ found. Spells (tree_of found) level) made found i j k got took }
 
-  small_left : (level own left : ℕ) → level ≤ own → own ≤ left → level ≤ left
-  small_left level own left a b = omega arith
-
-  same_level : (level : ℕ) → level ≤ level
-  same_level level = omega arith
-
   sound_climb : (n most own level : ℕ) (left : Expr) (i j : Input) (found : Expr) (k : Input) → level ≤ own → level ≤ most → Took (Spells (tree_of left) level) i j
       → reading.climb read n most own left j ≡ Some (found, k) → Upto most found i k
   unfolding reading.climb
   sound_climb zero most own level left i j found k by_own by_most took got = found_upto most level left found i j k by_most took got
   sound_climb (suc n) most own level left i j found k by_own by_most took got =
-      by (λ right how m. sound_climb n most how.level how.level (exprs.Binary j.at how.operator left right) i m found k (same_level how.level)) (next_operator most own j) refl got where
+      by (λ right how m. sound_climb n most how.level how.level (exprs.Binary j.at how.operator left right) i m found k (le_refl how.level)) (next_operator most own j) refl got where
         by : ((right : Expr) (how : Binding) (m : Input) → how.level ≤ most → Took (Spells (tree_of (exprs.Binary j.at how.operator left right)) how.level) i m
             → reading.climb read n most how.level (exprs.Binary j.at how.operator left right) m ≡ Some (found, k) → Upto most found i k)
             → (next : Option Binding) → next_operator most own j ≡ next
@@ -93,7 +87,7 @@ module _ (read : ℕ → Reader Expr) (sound : IsSound read) where
             let right_took = sound how.right (after j) right m (right_some (lexeme_of op.here) how op.is) read_right in
             let op_took = token_took (λ at here. (j.at ≡ at) × IsBetween here how) j op.here op.rest op.row (refl, op.is) in
             onward right how m op.fits
-            (spells_binary j.at left right how level right_took.level i m (small_left level own how.left by_own op.left) right_took.small
+            (spells_binary j.at left right how level right_took.level i m (le_trans by_own op.left) right_took.small
             (took_both (Spells (tree_of left) level) (token (λ at here. (j.at ≡ at) × IsBetween here how) · Spells (tree_of right) right_took.level) i j m took
             (took_both (token (λ at here. (j.at ≡ at) × IsBetween here how)) (Spells (tree_of right) right_took.level) j (after j) m op_took right_took.took)))
             rest
@@ -123,7 +117,7 @@ module _ (read : ℕ → Reader Expr) (sound : IsSound read) where
         let took = retold phrase (Spells (tree_of (exprs.Unary i.at how.operator operand)) how.level) i k
         (λ at tokens says. subst (λ tree. Spells tree how.level at tokens) (sym (tree_unary i.at how.operator operand)) (how, refl, refl, operand_took.level, operand_took.small, says))
         (took_both (token (λ at here. (i.at ≡ at) × IsBefore here how)) (Spells (tree_of operand) operand_took.level) i (after i) k op operand_took.took) in
-        sound_climb (length k.rest) most how.level how.level (exprs.Unary i.at how.operator operand) i k found j (same_level how.level) sign.fits took rest
+        sound_climb (length k.rest) most how.level how.level (exprs.Unary i.at how.operator operand) i k found j (le_refl how.level) sign.fits took rest
 
 sound_read : (n : ℕ) → IsSound (reading.read n)
 unfolding reading.read

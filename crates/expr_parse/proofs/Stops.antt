@@ -1,7 +1,7 @@
 -- Tokens with which an expression doesn't go on.
-use Rattle.std.proofs.Common.{◌≡◌, refl, sym, ◌∙◌, ap, subst, arith, ℕ, suc, ◌≤◌, ◌<◌, Bool, true, false, ◌&&◌, List, [], ◌∷◌, ◌++◌, length, Option, Some, None}
+use Rattle.std.proofs.Common.{◌≡◌, refl, sym, ◌∙◌, ap, subst, arith, ℕ, suc, ◌≤◌, ◌<◌, Bool, true, false, ◌&&◌, List, [], ◌∷◌, ◌++◌, length, Option, Some, None, lt_of_le_of_lt}
 use Rattle.std.specs.Prelude.{nat_le, nat_lt, if◌then◌else◌}
-use Rattle.std.proofs.lemmas.Bool.{ltb-true, lt-ltb}
+use Rattle.std.proofs.lemmas.Bool.{ltb-true, lt-ltb, lt-leb}
 use Rattle.ftn_tree.specs.declared.token.Token.{Token}
 use Rattle.ftn_tree.specs.declared.lexeme.Lexeme.{Lexeme}
 use Rattle.ftn_tree.specs.declared.lexeme.Lexeme.TheVariants as lexeme
@@ -28,17 +28,11 @@ pub record Stops (most : ℕ) (i : Input) : Type 0 where
   pub unopened : sees lexeme.Open i ≡ false
   pub loose : looser most (between_at (peek i)) ≡ true
 
-not_le : (a b : ℕ) → a < b → nat_le b a ≡ false
-not_le a b e = grind arith
-
-below : (a b c : ℕ) → a ≤ b → b < c → a < c
-below a b c small e = omega arith
-
 pub weaker : (most less : ℕ) (i : Input) → less ≤ most → Stops most i → Stops less i
 weaker most less i small stops = record { unopened = stops.unopened; loose = by (between_at (peek i)) stops.loose } where
   by : (how : Option Binding) → looser most how ≡ true → looser less how ≡ true
   by None e = refl
-  by (Some how) e = lt-ltb less how.level (below less most how.level small (ltb-true most how.level e))
+  by (Some how) e = lt-ltb less how.level (lt_of_le_of_lt small (ltb-true most how.level e))
 
 pub no_operator : (most own : ℕ) (i : Input) → Stops most i → next_operator most own i ≡ None
 unfolding next_operator
@@ -46,7 +40,7 @@ no_operator most own i stops = by (between_at (peek i)) stops.loose where
   by : (how : Option Binding) → looser most how ≡ true → only_between most own how ≡ None
   by None e = refl
   by (Some how) e =
-      ap (λ fits. if fits && nat_le own how.left then Some how else None) (not_le most how.level (ltb-true most how.level e))
+      ap (λ fits. if fits && nat_le own how.left then Some how else None) (lt-leb how.level most (ltb-true most how.level e))
 
 pub no_power : (most : ℕ) (i : Input) → 1 ≤ most → Stops most i → sees lexeme.Power i ≡ false
 no_power most i some stops = by (sees lexeme.Power i) refl where
@@ -121,7 +115,7 @@ starts_no_close : Apart starts (only lexeme.Close)
 unfolding same_lexeme
 starts_no_close = apart starts (only lexeme.Close) refl
 
-starts_no_colon : Apart starts (only lexeme.Colon)
+pub starts_no_colon : Apart starts (only lexeme.Colon)
 unfolding same_lexeme
 starts_no_colon = apart starts (only lexeme.Colon) refl
 

@@ -23,10 +23,10 @@ use Rattle.ftn_tree.proofs.AroundLemmas.{around_unit}
 
 -- ---- the extents of units
 
-abbrev own : ℕ → ℕ → ℕ → Extent
+abbrev pub own : ℕ → ℕ → ℕ → Extent
 own file opening ending = record { file = file; opening = opening; ending = ending }
 
-rolled_extents : (file opening ending : ℕ) (inner : List UnitTree) (body : List Block) →
+pub rolled_extents : (file opening ending : ℕ) (inner : List UnitTree) (body : List Block) →
     extents_in file (roll-Unit (record { opening = opening; ending = ending; inner = inner; body = body })) ≡ own file opening ending ∷ flat_map (extents_in file) inner
 rolled_extents file opening ending inner body =
     fold-roll-Unit (List Extent) (extent_step file) (record { opening = opening; ending = ending; inner = inner; body = body })
