@@ -1,5 +1,5 @@
 -- Which token holds an offset.
-use Rattle.std.proofs.Common.{◌≡◌, ℕ, zero, suc, ◌+◌, ◌≤◌, ◌<◌, ◌^◌, Bool, true, false, ◌&&◌, List, [], ◌∷◌, length, get_or, Option, Some, None, refl, ap, sym, ◌∙◌, arith, if◌then◌else◌}
+use Rattle.std.proofs.Common.{◌≡◌, ℕ, zero, suc, ◌+◌, ◌≤◌, ◌<◌, ◌^◌, Bool, true, false, ◌&&◌, List, [], ◌∷◌, length, get_or, Option, Some, None, refl, ap, sym, ◌∙◌, arith, if◌then◌else◌, one-add}
 use Rattle.std.specs.Prelude.{nat_le, slice_get}
 use Rattle.std.specs.Option.{option_map}
 use Rattle.std.specs.List.{prefix_len}
@@ -28,9 +28,6 @@ next_is : (at n : ℕ) (there : Option Token) → option_map suc (begun_at at n 
 next_is at n None = refl
 next_is at n (Some token) = counted_on (nat_le token.range.start at) n
 
-one_more : (n : ℕ) → suc n ≡ 1 + n
-one_more n = omega arith
-
 first_is : (begun : Bool) (later : Option ℕ) → later ≡ None → (if begun && true then Some 0 else option_map suc later) ≡ (if begun then Some 0 else None)
 first_is true later is = refl
 first_is false later is = ap (option_map suc) is
@@ -46,7 +43,7 @@ found at low size (token ∷ tokens) (first, some, more) = by (found at token.ra
       let before : token.range.end ≤ at = leb-true token.range.end at is in
       let n : ℕ = prefix_len (has_ended at) tokens in
       rw (is, le-leb token.range.start at (omega arith), le-ltb at token.range.end before)
-      (ap (option_map suc) later ∙ next_is at n (slice_get tokens n) ∙ ap (λ k. begun_at at k (slice_get (token ∷ tokens) k)) (one_more n))
+      (ap (option_map suc) later ∙ next_is at n (slice_get tokens n) ∙ ap (λ k. begun_at at k (slice_get (token ∷ tokens) k)) (sym (one-add n)))
   by later false is =
       let inside : at < token.range.end = leb-false token.range.end at is in
       rw (is, lt-ltb at token.range.end inside)
@@ -67,7 +64,7 @@ ends_rise low size (token ∷ tokens) (first, some, more) zero (suc j) d order l
 ends_rise low size (token ∷ tokens) (first, some, more) (suc i) zero d order less = absurd (omega arith)
 ends_rise low size (token ∷ tokens) (first, some, more) (suc i) (suc j) d order less = ends_rise token.range.end size tokens more i j d (omega arith) (omega arith)
 
-le_below : (a b at : ℕ) → a ≤ b → nat_le b at ≡ true → nat_le a at ≡ true
+pub le_below : (a b at : ℕ) → a ≤ b → nat_le b at ≡ true → nat_le a at ≡ true
 le_below a b at less is = grind (arith, nat_tests)
 
 ended_first : (text : List ℕ) (at : ℕ) → IsPartitionedBy (has_ended at) (tokens_of text).items

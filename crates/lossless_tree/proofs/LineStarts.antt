@@ -4,10 +4,10 @@ use Rattle.std.specs.Prelude.{⊤, cond, map, nat_le, count_by}
 use Rattle.std.specs.List.{slice_split, onto_first, prefix_len}
 use Rattle.std.specs.List.Sorted.{IsPartitionedBy}
 use Rattle.std.proofs.lemmas.Bool.{cond_both, le-leb, lt-leb}
-use Rattle.std.proofs.lemmas.Bool.Decides.{nat_tests}
 use Rattle.std.proofs.lemmas.List.Sums.{prefix_len_is, sum_by-cons}
 use Rattle.ftn_tree.specs.Lines.{Line, is_line_feed, line_starts, placed}
 use Rattle.lossless_tree.specs.Texts.{line_at}
+use Rattle.lossless_tree.proofs.Holding.{le_below}
 
 -- where further lines begin, from that offset on
 abbrev pub after : ℕ → List ℕ → List ℕ
@@ -71,9 +71,6 @@ rising_pair low (x ∷ xs) (first, more) zero zero d order less = omega arith
 rising_pair low (x ∷ xs) (first, more) zero (suc j) d order less = rising_from x xs more j d (omega arith)
 rising_pair low (x ∷ xs) (first, more) (suc i) zero d order less = absurd (omega arith)
 rising_pair low (x ∷ xs) (first, more) (suc i) (suc j) d order less = rising_pair x xs more i j d (omega arith) (omega arith)
-
-le_below : (a b at : ℕ) → a ≤ b → nat_le b at ≡ true → nat_le a at ≡ true
-le_below a b at less is = grind (arith, nat_tests)
 
 -- lines that begin at an offset at the latest come first
 pub starts_parted : (text : List ℕ) (at : ℕ) → IsPartitionedBy (λ start. nat_le start at) (line_starts text)

@@ -2,7 +2,8 @@
 use Rattle.std.proofs.Common.{◌≡◌, ℕ, zero, suc, ◌+◌, ◌-◌, ◌≤◌, ◌<◌, List, [], ◌∷◌, ◌++◌, length, drop, get_or, refl, ap, sym, ◌∙◌, arith, append_assoc}
 use Rattle.std.specs.Prelude.{map, slice_range, slice_get, Some}
 use Rattle.std.specs.List.{All}
-use Rattle.std.proofs.lemmas.List.{take-append-drop, drop-drop, take_rest, length-take, length-drop}
+use Rattle.std.proofs.lemmas.List.{take_rest, length-take, length-drop}
+use Rattle.std.proofs.lemmas.List.Folds.{drop_split}
 use Rattle.ftn_tree.specs.declared.token.Token.{Token}
 use Rattle.ftn_tree.specs.Reading.{tokens_of}
 use Rattle.lossless_tree.specs.Texts.{Rise, gap_texts, gaps_from, in_turn, token_texts}
@@ -13,19 +14,13 @@ use Rattle.lossless_tree.proofs.Rising.{tokens_rise}
 abbrev pub bytes_of : List ℕ → Token → List ℕ
 bytes_of text token = slice_range text token.range.start token.range.end
 
-range_then_rest : (text : List ℕ) (from to : ℕ) → from ≤ to → slice_range text from to ++ drop to text ≡ drop from text
-range_then_rest text from to less =
-    let on : from + (to - from) ≡ to = omega arith in
-    ap (λ rest. slice_range text from to ++ rest) (ap (λ n. drop n text) (sym on) ∙ sym (drop-drop (to - from) from text))
-    ∙ take-append-drop (to - from) (drop from text)
-
 turns_from : (text : List ℕ) (at : ℕ) (tokens : List Token) → Rise at tokens (length text) → in_turn (gaps_from text at tokens) (map (bytes_of text) tokens) ≡ drop at text
 turns_from text at [] rise = refl
 turns_from text at (token ∷ tokens) (first, some, more) =
     append_assoc (slice_range text at token.range.start) (bytes_of text token) (in_turn (gaps_from text token.range.end tokens) (map (bytes_of text) tokens))
     ∙ ap (λ rest. slice_range text at token.range.start ++ (bytes_of text token ++ rest)) (turns_from text token.range.end tokens more)
-    ∙ ap (λ rest. slice_range text at token.range.start ++ rest) (range_then_rest text token.range.start token.range.end (omega arith))
-    ∙ range_then_rest text at token.range.start first
+    ∙ ap (λ rest. slice_range text at token.range.start ++ rest) (sym (drop_split text token.range.start token.range.end (omega arith)))
+    ∙ sym (drop_split text at token.range.start first)
 
 -- gaps and tokens in turn are the text
 pub joined : (text : List ℕ) → in_turn (gap_texts text) (token_texts text) ≡ text
