@@ -4,6 +4,7 @@ use Rattle.std.proofs.lemmas.Grind.{common_steps}
 use Rattle.std.proofs.lemmas.Option.{some_pair_parts}
 use Rattle.std.proofs.lemmas.Bool.{not-true, not-false}
 use Rattle.std.proofs.lemmas.List.{append-nil}
+use Rattle.std.proofs.Math.Bool.{or-true}
 use denote.Hole.Carrier
 use Rattle.ftn_tree.specs.declared.token.Token.{Token}
 use Rattle.ftn_tree.specs.declared.expr.Expr.{Expr}
@@ -30,6 +31,7 @@ use Rattle.expr_parse.proofs.Operands.{starts, goes_on, ReadsExpressions, expres
 use Rattle.exec_parse.specs.steps.Constructs as read
 use Rattle.exec_parse.proofs.Wholes.{Sound, Reads, either_way, all_sound, all_complete, made_sound, made_complete, made_here, then_sound, then_complete, took_all}
 use Rattle.exec_parse.proofs.Words.{starts_alone, sees_own, took_word, open_no_word}
+use Rattle.expr_parse.proofs.Stops.{starts_no_colon}
 
 -- ---- facts on kinds
 
@@ -59,10 +61,6 @@ ends_expression = apart ends goes_on refl
 ends_no_colon : Apart ends (only lexeme.Colon)
 unfolding same_lexeme
 ends_no_colon = apart ends (only lexeme.Colon) refl
-
-starts_no_colon : Apart starts (only lexeme.Colon)
-unfolding same_lexeme
-starts_no_colon = apart starts (only lexeme.Colon) refl
 
 colon_expression : Apart (only lexeme.Colon) goes_on
 unfolding same_lexeme
@@ -200,13 +198,9 @@ module _ (laws : ReadsExpressions) where
 
   pub range_begun : (r : CaseRange) (at : ℕ) (tokens : List Token) → case_range r at tokens → (begins range_first tokens ≡ true) ⊎ ((tokens ≡ []) × (false ≡ true))
   range_begun r at tokens says = inl (by r says) where
-    or_true : (a : Bool) → (a || true) ≡ true
-    or_true true = refl
-    or_true false = refl
-
     started : (tokens : List Token) → begins starts tokens ≡ true → begins range_first tokens ≡ true
     started [] e = absurd (cc e)
-    started (here ∷ rest) e = ap (λ b. only lexeme.Colon (lexeme_of here) || b) e ∙ or_true (only lexeme.Colon (lexeme_of here))
+    started (here ∷ rest) e = ap (λ b. only lexeme.Colon (lexeme_of here) || b) e ∙ or-true (only lexeme.Colon (lexeme_of here))
 
     coloned : (tokens : List Token) → begins (only lexeme.Colon) tokens ≡ true → begins range_first tokens ≡ true
     coloned [] e = absurd (cc e)

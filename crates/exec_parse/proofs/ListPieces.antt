@@ -1,5 +1,6 @@
 -- Lists of expressions in executable statements, as pieces.
 use Rattle.std.proofs.Common.{◌≡◌, refl, ◌∙◌, ap, ℕ, Bool, true, false, ◌||◌, List, [], ◌∷◌, Option, Some, None, if◌then◌else◌, ◌⊎◌, inl, inr}
+use Rattle.std.proofs.Math.Bool.{or-true}
 use Rattle.ftn_tree.specs.declared.token.Token.{Token}
 use Rattle.ftn_tree.specs.declared.expr.Expr.{Expr}
 use Rattle.ftn_tree.specs.declared.lexeme.Lexeme.{Lexeme}
@@ -84,13 +85,9 @@ code_made n at tokens (here, is_one, (number, is)) = (here, is_one, (number, by 
 
 pub code_back : (n at : ℕ) (tokens : List Token) → stop_code n at tokens → (m : ℕ) × (m ≡ n) × token (λ at here. (m ≡ at) × (is_code here ≡ true)) at tokens
 code_back n at tokens (here, is_one, (number, is)) = (n, refl, (here, is_one, (number, by is))) where
-  second : (a : Bool) → (a || true) ≡ true
-  second true = refl
-  second false = refl
-
   by : (lexeme_of here ≡ Whole) ⊎ (lexeme_of here ≡ Quoted) → is_code here ≡ true
   by (inl e) = ap (λ whole. whole || is_kind Quoted here) (is_same (lexeme_of here) Whole e)
-  by (inr e) = ap (λ quoted. is_kind Whole here || quoted) (is_same (lexeme_of here) Quoted e) ∙ second (is_kind Whole here)
+  by (inr e) = ap (λ quoted. is_kind Whole here || quoted) (is_same (lexeme_of here) Quoted e) ∙ or-true (is_kind Whole here)
 
 choice : (a b : Bool) (i : Input) → (if a then taken_if a i else taken_if b i) ≡ and_then (taken_if (a || b) i) (λ n. pure n)
 choice true b i = refl

@@ -1,7 +1,6 @@
 -- How executable statements begin: with a word of their own, or with a construct name and a colon.
-use Rattle.std.proofs.Common.{◌≡◌, refl, sym, ◌∙◌, ap, ℕ, ◌+◌, Bool, true, false, not, ◌&&◌, ◌||◌, List, [], ◌∷◌, ◌++◌, length, drop, Some, None, codes, arith, ◌⊎◌, inl, inr}
+use Rattle.std.proofs.Common.{◌≡◌, refl, sym, ◌∙◌, ap, ℕ, ◌+◌, Bool, true, false, not, ◌&&◌, ◌||◌, List, [], ◌∷◌, ◌++◌, length, drop, Some, None, codes, ◌⊎◌, inl, inr}
 use Rattle.std.specs.Str.{bytes_eq}
-use Rattle.std.proofs.lemmas.Slice.Eq.{bytes_eq-Decides}
 use Rattle.std.proofs.lemmas.Bool.{and_parts, not-true, or_cases}
 use Rattle.ftn_tree.specs.declared.token.Token.{Token}
 use Rattle.ftn_tree.specs.declared.token.TokenKind.{TokenKind}
@@ -20,6 +19,7 @@ use Rattle.ftn_tree.specs.ExecutableForms.{stop_code, after_stars, condition, in
 use Rattle.ftn_tree.proofs.PhraseLaws.{to_right}
 use Rattle.expr_parse.specs.steps.Input.{first_lexeme}
 use Rattle.exec_parse.proofs.Words.{Starts, starts_with, starts_alone}
+use Rattle.ftn_tree.proofs.Namings.{text_is}
 
 abbrev pub is_among : List ℕ → List (List ℕ) → Bool
 is_among text [] = false
@@ -90,20 +90,17 @@ abbrev pub are_apart : List (List ℕ) → List (List ℕ) → Bool
 are_apart [] others = true
 are_apart (word ∷ words) others = not (is_among word others) && are_apart words others
 
-same_bytes : (a b : List ℕ) → bytes_eq a b ≡ true → a ≡ b
-same_bytes a b e = (bytes_eq-Decides a b).0 (grind arith)
-
 apart_text : (words others : List (List ℕ)) (text : List ℕ) → are_apart words others ≡ true → is_among text words ≡ true → is_among text others ≡ false
 apart_text [] others text apart among = absurd (cc among)
 apart_text (word ∷ words) others text apart among =
     let parts = and_parts (not (is_among word others)) (are_apart words others) apart in
     by parts.0 (λ among. apart_text words others text parts.1 among) (or_cases (bytes_eq text word) (is_among text words) among) where
       by : not (is_among word others) ≡ true → (is_among text words ≡ true → is_among text others ≡ false) → (bytes_eq text word ≡ true) ⊎ (is_among text words ≡ true) → is_among text others ≡ false
-      by none later (inl e) = ap (λ text. is_among text others) (same_bytes text word e) ∙ not-true (is_among word others) none
+      by none later (inl e) = ap (λ text. is_among text others) (text_is text word e) ∙ not-true (is_among word others) none
       by none later (inr e) = later e
 
 word_value : (kind : TokenKind) (value text other : List ℕ) → is_word_at kind value text ≡ true → is_word_at kind value other ≡ true → text ≡ other
-word_value kinds.Word value text other e f = sym (same_bytes value text e) ∙ same_bytes value other f
+word_value kinds.Word value text other e f = sym (text_is value text e) ∙ text_is value other f
 word_value kinds.Whole value text other e f = absurd (cc e)
 word_value kinds.RealForm value text other e f = absurd (cc e)
 word_value kinds.Quoted value text other e f = absurd (cc e)

@@ -1,7 +1,6 @@
 -- First words of statements.
-use Rattle.std.proofs.Common.{◌≡◌, refl, sym, ◌∙◌, ap, subst, arith, ℕ, ◌+◌, Bool, true, false, not, ◌&&◌, List, [], ◌∷◌, ◌++◌, length, drop, Some, if◌then◌else◌, ◌⊎◌, inl, inr}
+use Rattle.std.proofs.Common.{◌≡◌, refl, sym, ◌∙◌, ap, subst, ℕ, ◌+◌, Bool, true, false, not, ◌&&◌, List, [], ◌∷◌, ◌++◌, length, drop, Some, if◌then◌else◌, ◌⊎◌, inl, inr}
 use Rattle.std.specs.Str.{bytes_eq}
-use Rattle.std.proofs.lemmas.Slice.Eq.{bytes_eq-Decides}
 use Rattle.std.proofs.lemmas.Bool.{cases_Bool, and_parts, not-true}
 use Rattle.std.proofs.lemmas.Option.{some_pair_parts}
 use Rattle.ftn_tree.specs.declared.token.Token.{Token}
@@ -20,6 +19,7 @@ use Rattle.expr_parse.proofs.Pieces.{Piece, Took, Apart, begins, begins_after, b
 use Rattle.expr_parse.proofs.Tokens.{only, none_of, word_piece, word_kind, word_made, word_back, after_word}
 use Rattle.exec_parse.specs.steps.Constructs.{is_colon, sees_label}
 use Rattle.exec_parse.proofs.Wholes.{Sound, either_way}
+use Rattle.ftn_tree.proofs.Namings.{text_is}
 
 -- the tokens begin with that word
 pub record Starts (text : List ℕ) (tokens : List Token) : Type 0 where
@@ -39,11 +39,8 @@ pub sees_own : (text : List ℕ) (at : ℕ) (tokens : List Token) → Starts tex
 unfolding sees_word
 sees_own text at tokens starts = ap (holds_first (is_word text)) starts.tokens_are ∙ starts.is
 
-same_bytes : (a b : List ℕ) → bytes_eq a b ≡ true → a ≡ b
-same_bytes a b e = (bytes_eq-Decides a b).0 (grind arith)
-
 other_at : (kind : TokenKind) (value text other : List ℕ) → is_word_at kind value text ≡ true → bytes_eq text other ≡ false → is_word_at kind value other ≡ false
-other_at kinds.Word value text other e apart = ap (λ value. bytes_eq value other) (same_bytes value text e) ∙ apart
+other_at kinds.Word value text other e apart = ap (λ value. bytes_eq value other) (text_is value text e) ∙ apart
 other_at kinds.Whole value text other e apart = refl
 other_at kinds.RealForm value text other e apart = refl
 other_at kinds.Quoted value text other e apart = refl

@@ -1,5 +1,5 @@
 -- Calm bytes in front of a line are code, and stand for themselves.
-use Rattle.std.proofs.Common.{◌≡◌, ℕ, suc, ◌+◌, ◌≤◌, ◌<◌, Bool, true, false, List, [], ◌∷◌, drop, Option, Some, None, refl, ap, sym, subst, ◌∙◌, arith}
+use Rattle.std.proofs.Common.{◌≡◌, ℕ, suc, ◌+◌, ◌≤◌, ◌<◌, Bool, true, false, List, [], ◌∷◌, drop, Option, Some, None, refl, ap, sym, subst, ◌∙◌, arith, one-add, zero-add, suc-add}
 use Rattle.std.specs.Prelude.{◌&&◌, ◌||◌, not, ◌==◌, nat_le, nat_lt, if◌then◌else◌}
 use Rattle.std.specs.List.{prefix_len}
 use Rattle.std.proofs.lemmas.Bool.{cond_both, leb-true, ltb-true, lt-leb, le-ltb, not-true}
@@ -62,22 +62,13 @@ calm_quote b calm = ap (λ c. if c then Some b else None) calm.quote
 calm_step : (b : ℕ) (rest : List ℕ) → Calm b → code_len None (b ∷ rest) ≡ suc (code_len None rest)
 calm_step b rest calm = ap (λ c. if c then 0 else suc (code_len (quote_after None b) rest)) calm.mark ∙ ap (λ q. suc (code_len q rest)) (calm_quote b calm)
 
-none_before : (n : ℕ) → n ≡ 0 + n
-none_before n = omega arith
-
-one_more : (n : ℕ) → suc n ≡ 1 + n
-one_more n = omega arith
-
-suc_plus : (n m : ℕ) → suc (n + m) ≡ suc n + m
-suc_plus n m = omega arith
-
 calm_code : (bytes : List ℕ) → code_len None bytes ≡ prefix_len is_calm bytes + code_len None (drop (prefix_len is_calm bytes) bytes)
 calm_code [] = refl
 calm_code (b ∷ rest) =
     cond_both (is_calm b) (1 + prefix_len is_calm rest) 0 (λ n. code_len None (b ∷ rest) ≡ n + code_len None (drop n (b ∷ rest)))
-    (λ e. subst (λ n. code_len None (b ∷ rest) ≡ n + code_len None (drop n (b ∷ rest))) (one_more (prefix_len is_calm rest))
-    (calm_step b rest (calm_is b e) ∙ ap suc (calm_code rest) ∙ suc_plus (prefix_len is_calm rest) (code_len None (drop (prefix_len is_calm rest) rest))))
-    (λ e. none_before (code_len None (b ∷ rest)))
+    (λ e. subst (λ n. code_len None (b ∷ rest) ≡ n + code_len None (drop n (b ∷ rest))) (sym (one-add (prefix_len is_calm rest)))
+    (calm_step b rest (calm_is b e) ∙ ap suc (calm_code rest) ∙ sym (suc-add (prefix_len is_calm rest) (code_len None (drop (prefix_len is_calm rest) rest)))))
+    (λ e. sym (zero-add (code_len None (b ∷ rest))))
 
 pub calm_sum : (bytes : List ℕ) (n m : ℕ) → n ≡ prefix_len is_calm bytes → m ≡ code_len None (drop n bytes) → n + m ≡ code_len None bytes
 calm_sum bytes n m a b = ap (λ k. n + k) b ∙ ap (λ k. k + code_len None (drop k bytes)) a ∙ sym (calm_code bytes)
@@ -91,7 +82,7 @@ calm_plain : (bytes : List ℕ) → plain_end None (drop (prefix_len is_calm byt
 calm_plain [] = refl
 calm_plain (b ∷ rest) =
     cond_both (is_calm b) (1 + prefix_len is_calm rest) 0 (λ n. plain_end None (drop n (b ∷ rest)) ≡ plain_end None (b ∷ rest))
-    (λ e. subst (λ n. plain_end None (drop n (b ∷ rest)) ≡ plain_end None (b ∷ rest)) (one_more (prefix_len is_calm rest))
+    (λ e. subst (λ n. plain_end None (drop n (b ∷ rest)) ≡ plain_end None (b ∷ rest)) (sym (one-add (prefix_len is_calm rest)))
     (calm_plain rest ∙ sym (plain_step b rest (calm_is b e))))
     (λ e. refl)
 

@@ -1,5 +1,5 @@
 -- Sets of names, and a clean program part by part.
-use Rattle.std.proofs.Common.{◌≡◌, ℕ, suc, ◌+◌, ◌<◌, ◌≤◌, arith, drop-cons, Bool, true, false, cond, List, [], ◌∷◌, ◌++◌, length, drop, get_or, Option, Some, None, refl, sym, ap, ◌∙◌, append_assoc}
+use Rattle.std.proofs.Common.{◌≡◌, ℕ, suc, ◌+◌, ◌<◌, ◌≤◌, drop-cons, Bool, true, false, cond, List, [], ◌∷◌, ◌++◌, length, drop, get_or, Option, Some, None, refl, sym, ap, ◌∙◌, append_assoc, add-one}
 use Rattle.std.specs.Prelude.{◌&&◌, ◌||◌, not}
 use Rattle.std.specs.List.{flat_map, list_all, list_any}
 use Rattle.std.specs.Str.{bytes_eq}
@@ -8,6 +8,7 @@ use Rattle.std.proofs.lemmas.List.Folds.{list_all-append}
 use Rattle.std.proofs.lemmas.List.Concat.{flat_map-cons}
 use Rattle.std.proofs.lemmas.Slice.Eq.{bytes_eq-Decides}
 use Rattle.std.specs.Cmp.{both_ways}
+use Rattle.std.proofs.Math.Bool.{and_assoc, or_assoc}
 use Rattle.free_scan.specs.Clean.{are_distinct, is_among, is_clean, is_free_name, operand_names, statement_fits, statement_names, sum_names, variables}
 use Rattle.free_scan.specs.steps.Fresh.{are_fresh}
 use Rattle.free_scan.specs.Spelling.{is_some_row}
@@ -38,27 +39,19 @@ all_of_lists p f [] = refl
 all_of_lists p f (x ∷ xs) =
     ap (list_all p) (flat_map-cons f x xs) ∙ list_all-append p (f x) (flat_map f xs) ∙ ap (λ b. list_all p (f x) && b) (all_of_lists p f xs)
 
-and_group : (a b c : Bool) → (a && (b && c)) ≡ ((a && b) && c)
-and_group true b c = refl
-and_group false b c = refl
-
 pub fresh_append : (before first second : List (List ℕ)) → are_fresh before (first ++ second) ≡ (are_fresh before first && are_fresh (before ++ first) second)
 fresh_append before [] second = ap (λ names. are_fresh names second) (sym (append-nil before))
 fresh_append before (name ∷ first) second =
     ap (λ b. not (is_among before name) && b)
     (fresh_append (before ++ name ∷ []) first second
     ∙ ap (λ names. are_fresh (before ++ name ∷ []) first && are_fresh names second) (append_assoc before (name ∷ []) first))
-    ∙ and_group (not (is_among before name)) (are_fresh (before ++ name ∷ []) first) (are_fresh (before ++ name ∷ first) second)
+    ∙ sym (and_assoc (not (is_among before name)) (are_fresh (before ++ name ∷ []) first) (are_fresh (before ++ name ∷ first) second))
 
 -- ---- names that are fresh after no name are distinct
 
 or_false : (b : Bool) → (b || false) ≡ (false || b)
 or_false true = refl
 or_false false = refl
-
-or_group : (a b c : Bool) → (a || (b || c)) ≡ ((a || b) || c)
-or_group true b c = refl
-or_group false b c = refl
 
 mixed : (a b c d : Bool) → (not (a || b) && (c && not d)) ≡ ((not a && c) && not (b || d))
 mixed true b c d = refl
@@ -79,7 +72,7 @@ apart before names = list_all (λ name. not (is_among before name)) names
 among_append : (before : List (List ℕ)) (last name : List ℕ) → is_among (before ++ last ∷ []) name ≡ (is_among before name || bytes_eq last name)
 among_append [] last name = or_false (bytes_eq last name)
 among_append (other ∷ before) last name =
-    ap (λ b. bytes_eq other name || b) (among_append before last name) ∙ or_group (bytes_eq other name) (is_among before name) (bytes_eq last name)
+    ap (λ b. bytes_eq other name || b) (among_append before last name) ∙ sym (or_assoc (bytes_eq other name) (is_among before name) (bytes_eq last name))
 
 apart_append : (before : List (List ℕ)) (last : List ℕ) (names : List (List ℕ)) → apart (before ++ last ∷ []) names ≡ (apart before names && not (is_among names last))
 apart_append before last [] = refl
@@ -103,11 +96,8 @@ distinct_is names = fresh_is [] names ∙ ap (λ b. b && are_distinct names) (ap
 
 -- ---- steps of the loops that gather names
 
-next_is : (i : ℕ) → suc i ≡ i + 1
-next_is i = omega arith
-
 opened : {A : Type 0} (xs : List A) (i : ℕ) (x : A) → i < length xs → x ≡ get_or xs i x → drop i xs ≡ x ∷ drop (i + 1) xs
-opened xs i x lt at = drop-cons xs i x lt ∙ ap (λ y. y ∷ drop (suc i) xs) (sym at) ∙ ap (λ k. x ∷ drop k xs) (next_is i)
+opened xs i x lt at = drop-cons xs i x lt ∙ ap (λ y. y ∷ drop (suc i) xs) (sym at) ∙ ap (λ k. x ∷ drop k xs) (sym (add-one i))
 
 -- names from that place on: whether they are fresh, and what all come to
 abbrev pub Gathers : Bool → List (List ℕ) → List (List ℕ) → List (List ℕ) → Type 0
@@ -214,7 +204,7 @@ gather_begin set names e =
 
 pub free_by : (name : List ℕ) (b r : Bool) → is_name (name_limit F90) name ≡ b → r ≡ (b && (not (is_keyword name) && not (is_intrinsic name))) → r ≡ is_free_name name
 free_by name b r h e =
-    e ∙ and_group b (not (is_keyword name)) (not (is_intrinsic name)) ∙ ap (λ x. x && not (is_keyword name) && not (is_intrinsic name)) (sym h)
+    e ∙ sym (and_assoc b (not (is_keyword name)) (not (is_intrinsic name))) ∙ ap (λ x. x && not (is_keyword name) && not (is_intrinsic name)) (sym h)
 
 pub sum_known : (names : List (List ℕ)) (sum : Sum) (rest : List Term) (r : Bool) → list_all (is_among names) (operand_names sum.first) ≡ true → rest ≡ sum.rest
     → r ≡ list_all (λ term. list_all (is_among names) (operand_names term.operand)) rest → r ≡ list_all (is_among names) (sum_names sum)

@@ -1,5 +1,5 @@
 -- Steps of the loops that read each of a list.
-use Rattle.std.proofs.Common.{◌≡◌, ℕ, suc, ◌≤◌, ◌<◌, ◌+◌, List, [], ◌∷◌, ◌++◌, length, drop, get_or, map, Option, Some, None, refl, sym, ap, ◌∙◌, append_assoc, arith, drop-cons}
+use Rattle.std.proofs.Common.{◌≡◌, ℕ, suc, ◌≤◌, ◌<◌, ◌+◌, List, [], ◌∷◌, ◌++◌, length, drop, get_or, map, Option, Some, None, refl, sym, ap, ◌∙◌, append_assoc, arith, drop-cons, add-one}
 use Rattle.std.specs.Option.{option_map}
 use Rattle.std.proofs.lemmas.List.{append-nil, drop_all}
 use Rattle.std.specs.List.{slice_split}
@@ -27,9 +27,6 @@ bound_some f o x e = rw e refl
 bound_none : {A B : Type 0} (f : A → Option B) (o : Option A) → o ≡ None → (o >>= f) ≡ None
 bound_none f o e = rw e refl
 
-next_is : (i : ℕ) → suc i ≡ i + 1
-next_is i = omega arith
-
 module _ {A B C : Type 0} (read : B → Option C) (view : A → B) where
   abbrev rest_of : List A → ℕ → Option (List C)
   rest_of items i = read_all read (map view (drop i items))
@@ -42,7 +39,7 @@ module _ {A B C : Type 0} (read : B → Option C) (view : A → B) where
   read_more all front items i item x lt at found so_far =
       let here : read (view (get_or items i item)) ≡ Some x = sym (ap (λ a. read (view a)) at) ∙ found in
       so_far ∙ ap (onto front) (opened items i item lt ∙ bound_some (λ y. option_map (λ ys. y ∷ ys) (rest_of items (suc i))) _ x here)
-      ∙ onto_one front x (rest_of items (suc i)) ∙ ap (λ k. onto (front ++ x ∷ []) (rest_of items k)) (next_is i)
+      ∙ onto_one front x (rest_of items (suc i)) ∙ ap (λ k. onto (front ++ x ∷ []) (rest_of items k)) (sym (add-one i))
 
   pub read_stop : (all : Option (List C)) (front : List C) (items : List A) (i : ℕ) (item : A) → i < length items → item ≡ get_or items i item
       → read (view item) ≡ None → all ≡ onto front (rest_of items i) → None ≡ all

@@ -2,6 +2,7 @@
 use Rattle.std.proofs.Common.{◌≡◌, ℕ, Bool, true, false, cond, List, map, Option, Some, None, refl, sym, ap, ◌∙◌}
 use Rattle.std.specs.Option.{option_map}
 use Rattle.std.proofs.lemmas.Option.{same_Some}
+use Rattle.std.proofs.lemmas.Simd.{map-map}
 use Rattle.free_scan.specs.Clean.{is_clean}
 use Rattle.free_scan.specs.FirstForm.{IsProgramText, Lacks}
 use Rattle.free_scan.specs.Lines.{is_plain}
@@ -13,7 +14,6 @@ use Rattle.free_scan.specs.declared.first_form.token.PlacedPiece.{PlacedPiece}
 use Rattle.free_scan.proofs.CleanRows.{is_filled, rows_good}
 use Rattle.free_scan.proofs.LowerRows.{text_is_lower}
 use Rattle.free_scan.proofs.ReadBack.{program_back}
-use Rattle.free_scan.proofs.Rows.{map_map}
 use Rattle.free_scan.proofs.ReadTrue.{program_true}
 
 -- the program of a text is read from its spelling
@@ -74,5 +74,5 @@ pub clean_given : {A : Type 0} (view : A → List PlacedPiece) (rows : List A) (
     → read_program (map (λ row. map lexeme_of (view row)) rows) ≡ read → read_clean (lexeme_rows tokens) ≡ (read >>= λ q. cond (is_clean q) (Some q) None)
 unfolding read_clean
 clean_given view rows tokens read e h =
-    let is : map (λ row. map lexeme_of (view row)) rows ≡ lexeme_rows tokens = sym (map_map (map lexeme_of) view rows) ∙ ap (map (map lexeme_of)) e in
+    let is : map (λ row. map lexeme_of (view row)) rows ≡ lexeme_rows tokens = sym (map-map (map lexeme_of) view rows) ∙ ap (map (map lexeme_of)) e in
     ap (λ o. o >>= λ q. cond (is_clean q) (Some q) None) (ap read_program (sym is) ∙ h)

@@ -8,6 +8,7 @@ use Rattle.std.proofs.lemmas.Bool.Decides.{nat_tests}
 use Rattle.ftn_base.specs.Letters.{is_within}
 use Rattle.ftn_tree.specs.Lines.{is_line_feed}
 use Rattle.std.specs.List.{onto_first}
+use Rattle.std.proofs.Math.Bool.{and-false}
 use Rattle.ftn_base.specs.Limits.{line_limit}
 use Rattle.free_scan.specs.Lines.{lines, is_plain_byte, is_plain_line, is_plain}
 use Rattle.free_scan.specs.steps.PlainWalk.{plain_from}
@@ -51,10 +52,6 @@ with_true : (n x : Bool) → n && x ≡ n && true && x
 with_true true x = refl
 with_true false x = refl
 
-never : (w : Bool) → w && false ≡ false
-never true = refl
-never false = refl
-
 flipped : (b : ℕ) → b == 10 ≡ false → 10 == b ≡ false
 flipped b is = grind (arith, nat_tests)
 
@@ -73,8 +70,8 @@ same_end b c line =
 
 -- a line of one byte more, that is no LF
 one_more : (count b : ℕ) (ls : List (List ℕ)) → is_line_feed b ≡ false → is_within 32 126 b && plain_after (count + 1) ls ≡ plain_after count (onto_first b ls)
-one_more count b [] other = rw (not_zero count, flipped b other) (never (is_within 32 126 b))
-one_more count b ([] ∷ rest) other = rw (flipped b other) (never (is_within 32 126 b))
+one_more count b [] other = rw (not_zero count, flipped b other) (and-false (is_within 32 126 b))
+one_more count b ([] ∷ rest) other = rw (flipped b other) (and-false (is_within 32 126 b))
 one_more count b ((c ∷ line) ∷ rest) other =
     let size : count + 1 + suc (length line) ≡ count + suc (suc (length line)) = omega arith in
     rw (other, ← same_end b c line, size)

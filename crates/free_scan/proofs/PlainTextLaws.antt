@@ -1,10 +1,11 @@
 -- Bytes of one line that stand for themselves: what they give at once is what they give one by one.
-use Rattle.std.proofs.Common.{◌≡◌, ℕ, zero, suc, ◌+◌, ◌-◌, ◌≤◌, ◌<◌, Bool, true, false, List, [], ◌∷◌, ◌++◌, length, take, drop, Option, Some, None, refl, ap, sym, ◌∙◌, arith, append_assoc, append-nil}
+use Rattle.std.proofs.Common.{◌≡◌, ℕ, zero, suc, ◌+◌, ◌-◌, ◌≤◌, Bool, true, false, List, [], ◌∷◌, ◌++◌, length, take, drop, Option, Some, None, refl, ap, sym, ◌∙◌, arith, append_assoc, append-nil}
 use Rattle.std.specs.Prelude.{◌&&◌, ◌||◌, not, ◌==◌, if◌then◌else◌}
 use Rattle.std.specs.List.{list_any}
 use Rattle.std.proofs.lemmas.Bool.Decides.{nat_tests}
 use Rattle.std.proofs.lemmas.List.{length-append, length-drop, length-take-le}
 use Rattle.std.proofs.lemmas.Option.{same_Some}
+use Rattle.std.proofs.Math.Bool.{and-false}
 use Rattle.ftn_base.specs.declared.name.Edition.{Edition}
 use Rattle.ftn_base.specs.declared.fault.FaultKind.TheVariants as kinds
 use Rattle.ftn_tree.specs.declared.token.TokenKind.{TokenKind}
@@ -20,10 +21,6 @@ use Rattle.ftn_tree.specs.Reading.{last_of, token_of, value_of}
 use Rattle.free_scan.specs.steps.Scanning.{State, IsWithin, finished, flushed, pushed, taken, taken_all}
 use Rattle.free_scan.specs.steps.PlainText.{adjoining, is_plain, plain_end, row_breaches, row_tokens, with_row}
 use Rattle.free_scan.proofs.ScanLaws.{within_finished, within_flushed}
-
-no_both : (a : Bool) → (a && false) ≡ false
-no_both true = refl
-no_both false = refl
 
 two_false : (a b : Bool) → not (a || b) ≡ true → (a ≡ false) × (b ≡ false)
 two_false true b e = absurd (cc)
@@ -43,7 +40,7 @@ plain_glyph q spot b e =
     let are : ((is_outside q && b == 59) ≡ false) × (is_wrong q b ≡ false) = plain_parts q b e in
     ap (λ c. if c then cut else if is_outside q && is_wrong q b then byte 32 spot else byte b spot) are.0
     ∙ ap (λ w. if is_outside q && w then byte 32 spot else byte b spot) are.1
-    ∙ ap (λ c. if c then byte 32 spot else byte b spot) (no_both (is_outside q))
+    ∙ ap (λ c. if c then byte 32 spot else byte b spot) (and-false (is_outside q))
 
 next_plain : (q last : Option ℕ) (b : ℕ) (row : List ℕ) → plain_end q (b ∷ row) ≡ Some last → (is_plain q b ≡ true) × (plain_end (quote_after q b) row ≡ Some last)
 next_plain q last b row e = if_some (is_plain q b) (plain_end (quote_after q b) row) last e

@@ -1,5 +1,5 @@
 -- What is spelled is read back.
-use Rattle.std.proofs.Common.{◌≡◌, ℕ, suc, ◌+◌, arith, true, false, cond, List, [], ◌∷◌, ◌++◌, length, map, take, drop, codes, Option, Some, None, refl, ap, ◌∙◌, take_at, drop_at}
+use Rattle.std.proofs.Common.{◌≡◌, ℕ, ◌+◌, true, false, cond, List, [], ◌∷◌, ◌++◌, length, map, take, drop, codes, Option, Some, None, refl, ap, ◌∙◌, take_at, drop_at, one-add}
 use Rattle.std.specs.Prelude.{nat_le}
 use Rattle.std.specs.List.{slice_split, onto_first, prefix_len, AllByRecursion}
 use Rattle.std.specs.Option.{option_map}
@@ -162,13 +162,10 @@ none_declared : (stated : List Statement) → prefix_len is_declaration (map spe
 none_declared [] = refl
 none_declared (statement ∷ stated) = ap (λ b. cond b (1 + prefix_len is_declaration (map spell_statement stated)) 0) (no_declaration statement)
 
-one_more : (n : ℕ) → 1 + n ≡ suc n
-one_more n = omega arith
-
 all_declared : (declared : List (List (List ℕ))) (stated : List Statement)
     → prefix_len is_declaration (map spell_declaration declared ++ map spell_statement stated) ≡ length (map spell_declaration declared)
 all_declared [] stated = none_declared stated
-all_declared (names ∷ declared) stated = ap (λ n. 1 + n) (all_declared declared stated) ∙ one_more (length (map spell_declaration declared))
+all_declared (names ∷ declared) stated = ap (λ n. 1 + n) (all_declared declared stated) ∙ one-add (length (map spell_declaration declared))
 
 -- each declared list and each statement with its items
 abbrev pub Filled : Program → Type 0

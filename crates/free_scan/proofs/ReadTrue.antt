@@ -28,7 +28,7 @@ bound : {A B : Type 0} (o : Option A) (f : A → Option B) (y : B) → (o >>= f)
 bound None f y e = absurd cc
 bound (Some x) f y e = (x, refl, e)
 
-mapped : {A B : Type 0} (f : A → B) (o : Option A) (y : B) → option_map f o ≡ Some y → (x : A) × (o ≡ Some x) × (f x ≡ y)
+pub mapped : {A B : Type 0} (f : A → B) (o : Option A) (y : B) → option_map f o ≡ Some y → (x : A) × (o ≡ Some x) × (f x ≡ y)
 mapped f None y e = absurd cc
 mapped f (Some x) y e = (x, refl, cc)
 

@@ -5,17 +5,14 @@ use Rattle.std.specs.List.{slice_split, onto_first}
 use Rattle.std.proofs.lemmas.List.Elements.{filter-append}
 use Rattle.std.proofs.lemmas.List.{append-nil}
 use Rattle.std.proofs.lemmas.Bool.Decides.{nat_tests}
+use Rattle.std.proofs.lemmas.Simd.{map-map}
 use Rattle.ftn_base.specs.Limits.{greatest_integer}
 use Rattle.free_scan.specs.steps.Reading.{is_comma, fitting}
 use Rattle.free_scan.specs.Spelling.{lexeme_of, number_of, is_some_row, token_lines, rows_of}
 use Rattle.free_scan.specs.Tokens.{is_line_end}
 use Rattle.free_scan.specs.declared.first_form.token.PlacedPiece.{PlacedPiece}
 
-pub map_map : {A B C : Type 0} (g : B → C) (f : A → B) (xs : List A) → map g (map f xs) ≡ map (λ x. g (f x)) xs
-map_map g f [] = refl
-map_map g f (x ∷ xs) = ap (λ ys. g (f x) ∷ ys) (map_map g f xs)
-
-map_onto : {A B : Type 0} (f : A → B) (x : A) (rows : List (List A)) → map (map f) (onto_first x rows) ≡ onto_first (f x) (map (map f) rows)
+pub map_onto : {A B : Type 0} (f : A → B) (x : A) (rows : List (List A)) → map (map f) (onto_first x rows) ≡ onto_first (f x) (map (map f) rows)
 map_onto f x [] = refl
 map_onto f x (row ∷ rows) = refl
 
@@ -34,7 +31,7 @@ split_map p f (x ∷ xs) =
 pub parts_are : {A : Type 0} (view : A → List PlacedPiece) (items : List A) (row : List PlacedPiece)
     → map view items ≡ slice_split (λ token. is_comma (lexeme_of token)) row
     → map (λ part. map lexeme_of (view part)) items ≡ slice_split is_comma (map lexeme_of row)
-parts_are view items row e = sym (map_map (map lexeme_of) view items) ∙ ap (map (map lexeme_of)) e ∙ split_map is_comma lexeme_of row
+parts_are view items row e = sym (map-map (map lexeme_of) view items) ∙ ap (map (map lexeme_of)) e ∙ split_map is_comma lexeme_of row
 
 -- lines by either way of splitting: the last may be an empty one more
 abbrev Alike : List (List PlacedPiece) → List (List PlacedPiece) → Type 0

@@ -1,10 +1,11 @@
 -- A scan that goes on stays within what was read.
-use Rattle.std.proofs.Common.{◌≡◌, ℕ, zero, suc, ◌+◌, ◌≤◌, ◌<◌, Bool, true, false, List, [], ◌∷◌, ◌++◌, length, take, drop, get_or, refl, ap, sym, ◌∙◌, arith}
+use Rattle.std.proofs.Common.{◌≡◌, ℕ, zero, suc, ◌+◌, ◌≤◌, ◌<◌, Bool, List, [], ◌∷◌, ◌++◌, length, take, drop, get_or, refl, ap, sym, ◌∙◌, arith}
 use Rattle.std.specs.Prelude.{◌&&◌, ◌||◌, ◌==◌, Option}
 use Rattle.std.specs.List.{list_any}
 use Rattle.std.proofs.lemmas.Bool.{cond_both}
 use Rattle.std.proofs.lemmas.List.{drop_more, length-append}
 use Rattle.std.proofs.lemmas.List.Sums.{fold-append}
+use Rattle.std.proofs.Math.Bool.{or_assoc}
 use Rattle.ftn_base.specs.declared.fault.FaultKind.TheVariants as kinds
 use Rattle.ftn_tree.specs.declared.piece.PieceKind.{PieceKind}
 use Rattle.ftn_tree.specs.declared.piece.PieceKind.TheVariants as pieces
@@ -98,10 +99,6 @@ is_cut_glyph quote spot b =
     cond_both (is_outside quote && b == 59) _ _ (λ g. is_cut g ≡ (is_outside quote && b == 59)) (λ e. sym e)
     (λ e. cond_both (is_outside quote && is_wrong quote b) _ _ (λ g. is_cut g ≡ (is_outside quote && b == 59)) (λ other. sym e) (λ other. sym e))
 
-or_assoc : (a b c : Bool) → (a || (b || c)) ≡ ((a || b) || c)
-or_assoc true b c = refl
-or_assoc false b c = refl
-
 any_cons : (g : Glyph) (gs : List Glyph) → list_any is_cut (g ∷ gs) ≡ (is_cut g || list_any is_cut gs)
 any_cons g gs = refl
 
@@ -113,4 +110,4 @@ cut_step before quote line at i bytes less =
     ap (λ gs. before || list_any is_cut gs) (glyphs_step quote line at i bytes less)
     ∙ ap (λ b. before || b) (any_cons (glyph quote (record { at = at; line = line }) (get_or bytes i 0)) rest)
     ∙ ap (λ b. before || (b || list_any is_cut rest)) (is_cut_glyph quote (record { at = at; line = line }) (get_or bytes i 0))
-    ∙ or_assoc before (is_outside quote && get_or bytes i 0 == 59) (list_any is_cut rest)
+    ∙ sym (or_assoc before (is_outside quote && get_or bytes i 0 == 59) (list_any is_cut rest))

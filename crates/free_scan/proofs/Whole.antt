@@ -1,7 +1,7 @@
 -- How the rows of a program are told apart.
 use Rattle.std.proofs.Common.{◌≡◌, ℕ, zero, suc, ◌≤◌, ◌-◌, ◌+◌, Bool, cond, List, [], ◌∷◌, ◌++◌, length, take, drop, get_or, map, Option, Some, None, refl, sym, ap, ◌∙◌, arith}
 use Rattle.std.specs.List.{prefix_len}
-use Rattle.std.proofs.lemmas.List.{take-map, drop-map}
+use Rattle.std.proofs.lemmas.List.{take-map, drop-map, map-append}
 use Rattle.free_scan.specs.steps.Reading.{◌>>=◌, and_last, is_closing, is_declaration, read_all, read_body, read_declaration, read_opening, read_program, read_statement}
 use Rattle.free_scan.specs.Spelling.{Lexeme}
 use Rattle.free_scan.specs.declared.first_form.program.Program.{Program}
@@ -19,7 +19,7 @@ program_at opening [] closing = refl
 program_at opening (row ∷ rows) closing =
     ap (λ p. read_opening opening >>= λ name. cond (is_closing name p.1) (read_body name p.0) None) (last_is row rows closing)
 
-last_of : {A : Type 0} (n : ℕ) (xs : List A) (y : A) → length xs ≡ suc n → y ≡ get_or xs n y → xs ≡ take n xs ++ y ∷ []
+pub last_of : {A : Type 0} (n : ℕ) (xs : List A) (y : A) → length xs ≡ suc n → y ≡ get_or xs n y → xs ≡ take n xs ++ y ∷ []
 last_of n [] y len at = absurd (omega (arith, len))
 last_of zero (x ∷ []) y len at = ap (λ z. z ∷ []) (sym at)
 last_of (suc n) (x ∷ []) y len at = absurd (omega (arith, len))
@@ -38,17 +38,13 @@ ends_are {A} (z ∷ w ∷ xs) x y le first last =
     let len : length (w ∷ xs) ≡ suc n = omega arith in
     ap (λ v. v ∷ w ∷ xs) (sym first) ∙ ap (λ ys. x ∷ ys) (last_of n (w ∷ xs) y len at)
 
-map_append : {A B : Type 0} (f : A → B) (xs ys : List A) → map f (xs ++ ys) ≡ map f xs ++ map f ys
-map_append f [] ys = refl
-map_append f (x ∷ xs) ys = ap (λ zs. f x ∷ zs) (map_append f xs ys)
-
 module _ {A : Type 0} (view : A → List Lexeme) where
   viewed : (rows : List A) (opening closing : A) → 2 ≤ length rows → opening ≡ get_or rows 0 opening → closing ≡ get_or rows (length rows - 1) closing
       → read_program (map view rows) ≡ (read_opening (view opening) >>= λ name. cond (is_closing name (view closing)) (read_body name (map view (take (length rows - 1 - 1) (drop 1 rows)))) None)
   viewed rows opening closing le first last =
       let body = take (length rows - 1 - 1) (drop 1 rows) in
       ap (λ xs. read_program (map view xs)) (ends_are rows opening closing le first last)
-      ∙ ap (λ xs. read_program (view opening ∷ xs)) (map_append view body (closing ∷ []))
+      ∙ ap (λ xs. read_program (view opening ∷ xs)) (map-append view body (closing ∷ []))
       ∙ program_at (view opening) (map view body) (view closing)
 
   pub closes : (rows : List A) (opening closing : A) (name : List ℕ) (b : Bool) → 2 ≤ length rows → opening ≡ get_or rows 0 opening → closing ≡ get_or rows (length rows - 1) closing

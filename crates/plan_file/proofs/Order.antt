@@ -10,6 +10,7 @@ use Rattle.std.proofs.lemmas.Bool.{and_parts, and_from, and_right, leb-true, le-
 use Rattle.std.proofs.lemmas.Cmp.{nat_list_cmp_total}
 use Rattle.std.proofs.lemmas.List.{length-append}
 use Rattle.std.proofs.lemmas.List.Sums.{sum_by-append, sum_by-cons}
+use Rattle.std.proofs.Math.Bool.{and-true}
 use Rattle.ftn_base.specs.Files.{File, by_name, is_source, IsInOrder}
 use Rattle.ftn_base.specs.Names.{is_file_name}
 use Rattle.ftn_base.specs.Limits.{most_file_bytes, most_project_bytes}
@@ -33,11 +34,7 @@ last_at f (g ∷ gs) = last_at g gs
 
 before_by_last : (f : File) (fs : List File) (name : List ℕ) → IsInOrder (f ∷ fs) → is_lt (by_name (last_of f fs).0 name) ≡ are_before (f ∷ fs) name
 unfolding last_of
-before_by_last f [] name order = alone (is_lt (by_name f.0 name))
-  where
-    alone : (b : Bool) → b ≡ (b && true)
-    alone true = refl
-    alone false = refl
+before_by_last f [] name order = sym (and-true (is_lt (by_name f.0 name)))
 before_by_last f (g ∷ gs) name order =
     let parts = and_parts (below_all by_name f.0 (g ∷ gs)) (is_sorted by_name (g ∷ gs)) order in
     let first = and_parts (is_lt (by_name f.0 g.0)) (below_all by_name f.0 gs) parts.0 in

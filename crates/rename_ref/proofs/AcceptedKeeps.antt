@@ -4,6 +4,7 @@ use Rattle.std.specs.List.{list_all}
 use Rattle.std.proofs.lemmas.Bool.{and_parts, ltb-false, not-true}
 use Rattle.std.proofs.lemmas.Slice.Eq.{bytes_eq-Decides}
 use Rattle.std.proofs.lemmas.Option.{same_Some}
+use Rattle.std.proofs.lemmas.List.Folds.{list_all-map}
 use Rattle.ftn_base.specs.Keywords.{is_keyword, is_intrinsic}
 use Rattle.ftn_base.specs.Letters.{folded}
 use Rattle.ftn_base.specs.Names.{is_name}
@@ -28,7 +29,7 @@ use Rattle.rename_ref.specs.Meaning.{run}
 use Rattle.rename_ref.specs.Names.{name_tokens, denoting}
 use Rattle.rename_ref.specs.Renaming.{renamed, map_program}
 use Rattle.rename_ref.proofs.Accepted.{accepted}
-use Rattle.rename_ref.proofs.Alls.{all_weaken, all_map, find_none, map_agree}
+use Rattle.rename_ref.proofs.Alls.{all_weaken, find_none, map_agree}
 use Rattle.rename_ref.proofs.Chunks.{Chunk, joined, AreFronts, placed_in, tokens_in, text_cut, placed_of_joined, tokens_of_joined, is_old, tokens_where, name_tokens_in, denoting_in}
 use Rattle.rename_ref.proofs.CleanRenamed.{swapped, swapped_same, swapped_renames, is_other, IsClean, clean_parts, clean_from, clean_map, variables_map, among_passes, free_swapped}
 use Rattle.rename_ref.proofs.FreshNames.{names_other}
@@ -235,7 +236,7 @@ module _ (unique : OneProgram) (runs : RunsKept) (old new : List ℕ) (cs : List
 
   -- no entity has the new name
   others_named : list_all (λ (e : Entity). is_other (folded new) e.1) (entities p) ≡ true
-  others_named = sym (all_map (is_other (folded new)) name_of_entity (entities p)) ∙ ap (list_all (is_other (folded new))) (names_of_entities p) ∙ others old new cs p a
+  others_named = sym (list_all-map (is_other (folded new)) name_of_entity (entities p)) ∙ ap (list_all (is_other (folded new))) (names_of_entities p) ∙ others old new cs p a
 
   -- a name token denotes the partner of what it denoted
   denotes_one : (t : Token) → is_other (folded new) t.value ≡ true → denoted (map_program f p) (f t.value) ≡ option_map (partner f) (denoted p t.value)

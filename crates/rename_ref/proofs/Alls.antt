@@ -1,5 +1,5 @@
 -- Tests of each element of a list.
-use Rattle.std.proofs.Common.{◌≡◌, Bool, true, false, cond, not, ◌&&◌, ◌||◌, List, [], ◌∷◌, ◌++◌, map, filter, find, flat_map, Some, None, refl, ap}
+use Rattle.std.proofs.Common.{◌≡◌, Bool, true, false, cond, not, ◌&&◌, ◌||◌, List, [], ◌∷◌, ◌++◌, map, filter, find, flat_map, Some, None, refl}
 use Rattle.std.specs.List.{list_all}
 use Rattle.std.proofs.lemmas.Bool.{and_parts, and_from}
 
@@ -28,11 +28,6 @@ all_append_parts p (x ∷ xs) ys a =
 pub all_append : {X : Type 0} (p : X → Bool) (xs ys : List X) → list_all p xs ≡ true → list_all p ys ≡ true → list_all p (xs ++ ys) ≡ true
 all_append p [] ys a b = b
 all_append p (x ∷ xs) ys a b = let s = and_parts (p x) (list_all p xs) a in and_from (p x) (list_all p (xs ++ ys)) s.0 (all_append p xs ys s.1 b)
-
--- a test after a map is a test of the mapped elements
-pub all_map : {X Y : Type 0} (p : Y → Bool) (f : X → Y) (xs : List X) → list_all p (map f xs) ≡ list_all (λ x. p (f x)) xs
-all_map p f [] = refl
-all_map p f (x ∷ xs) = ap (λ (b : Bool). p (f x) && b) (all_map p f xs)
 
 -- all of the lists that are joined, and of each list
 pub all_flat_parts : {X Y : Type 0} (p : Y → Bool) (h : X → List Y) (xs : List X) → list_all p (flat_map h xs) ≡ true → list_all (λ x. list_all p (h x)) xs ≡ true

@@ -15,6 +15,7 @@ use Rattle.ftn_tree.specs.declared.token.Token.{Token}
 use Rattle.ftn_tree.specs.declared.token.TokenKind.TheVariants as kinds
 use Rattle.rename_ref.specs.Names.{is_word, is_name_token, name_tokens, denoting}
 use Rattle.rename_ref.proofs.Fronts.{front_some}
+use Rattle.free_scan.proofs.ReadTrue.{mapped}
 
 -- a piece with its bytes
 abbrev pub Chunk : Type 0
@@ -41,11 +42,6 @@ and_then_some : {A B : Type 0} (f : A → Option B) (o : Option A) (y : B) → o
 and_then_some f None y e = absurd cc
 and_then_some f (Some x) y e = (x, refl, e)
 
--- the value under a map that gave one
-pub map_some : {A B : Type 0} (f : A → B) (o : Option A) (y : B) → option_map f o ≡ Some y → (x : A) × (o ≡ Some x) × (f x ≡ y)
-map_some f None y e = absurd cc
-map_some f (Some x) y e = (x, refl, cc)
-
 -- ---- a text and its pieces
 
 -- the piece at the front with its bytes, before the pieces of what is left
@@ -68,7 +64,7 @@ pieces_cut zero (b ∷ rest) ps e = absurd cc
 pieces_cut (suc n) (b ∷ rest) ps e =
     let text : List ℕ = b ∷ rest in
     let a = and_then_some (λ (piece : Piece). option_map (λ (pieces : List Piece). piece ∷ pieces) (pieces_within n (drop piece.1 text))) (front text) ps e in
-    let m = map_some (λ (pieces : List Piece). a.0 ∷ pieces) (pieces_within n (drop a.0.1 text)) ps a.2 in
+    let m = mapped (λ (pieces : List Piece). a.0 ∷ pieces) (pieces_within n (drop a.0.1 text)) ps a.2 in
     let r = pieces_cut n (drop a.0.1 text) m.0 m.1 in
     let f = first_piece text a.0 r.0 a.1 r.1 r.2 in
     ((a.0.0, take a.0.1 text) ∷ r.0, f.0, f.1, cc (f.2, r.3, m.2))
@@ -108,8 +104,8 @@ placed_in_is at line (c ∷ cs) =
 -- a text that has tokens is made of pieces that have these
 pub text_cut : (text : List ℕ) (tokens : List Token) → tokens_of text ≡ Some tokens → (cs : List Chunk) × (joined cs ≡ text) × AreFronts cs × (tokens_in 0 1 cs ≡ tokens)
 text_cut text tokens e =
-    let q = map_some tokens_among (placed_pieces_of text) tokens e in
-    let m = map_some (placed_pieces_from 0 1 text) (pieces_of text) q.0 q.1 in
+    let q = mapped tokens_among (placed_pieces_of text) tokens e in
+    let m = mapped (placed_pieces_from 0 1 text) (pieces_of text) q.0 q.1 in
     let r = pieces_cut (length text) text m.0 m.1 in
     let t : placed_pieces_from 0 1 (joined r.0) (map sized r.0) ≡ placed_in 0 1 r.0 = placed_in_is 0 1 r.0 in
     let p : placed_in 0 1 r.0 ≡ q.0 = sym t ∙ ap (λ (u : List ℕ). placed_pieces_from 0 1 u (map sized r.0)) r.1 ∙ ap (placed_pieces_from 0 1 text) r.3 ∙ m.2 in
@@ -193,7 +189,7 @@ name_tokens_in at line cs =
     filter_tokens is_name_token is_name_chunk (λ from on w. refl) (λ t e. and_left (is_word t.kind) (not (is_keyword t.value)) e) (λ c e. and_left (is_word_piece c.0) (not (is_keyword (folded c.1))) e) at line cs
 
 -- two filters are one
-filter_filter : {X : Type 0} (p q : X → Bool) (xs : List X) → filter q (filter p xs) ≡ filter (λ x. p x && q x) xs
+pub filter_filter : {X : Type 0} (p q : X → Bool) (xs : List X) → filter q (filter p xs) ≡ filter (λ x. p x && q x) xs
 filter_filter p q [] = refl
 filter_filter p q (x ∷ xs) = go (p x) (filter_filter p q xs)
   where

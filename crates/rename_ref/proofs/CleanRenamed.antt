@@ -5,6 +5,7 @@ use Rattle.std.proofs.lemmas.Bool.{and_parts, or_cases}
 use Rattle.std.proofs.lemmas.Bool.Decides.{same_from_decides}
 use Rattle.std.proofs.lemmas.List.{map-append}
 use Rattle.std.proofs.lemmas.Slice.Eq.{bytes_eq-Decides}
+use Rattle.std.proofs.lemmas.List.Folds.{list_all-map}
 use Rattle.free_scan.specs.Spelling.{is_some_row}
 use Rattle.free_scan.specs.Clean.{operand_names, sum_names, statement_names, operand_fits, sum_fits, statement_fits, is_among, are_distinct, is_free_name, variables, is_clean}
 use Rattle.free_scan.specs.declared.first_form.program.Operand.{Operand}
@@ -15,7 +16,7 @@ use Rattle.free_scan.specs.declared.first_form.program.Statement.{Statement}
 use Rattle.free_scan.specs.declared.first_form.program.Statement.TheVariants as statements
 use Rattle.free_scan.specs.declared.first_form.program.Program.{Program}
 use Rattle.rename_ref.specs.Renaming.{map_operand, map_term, map_sum, map_statement, map_program, renamed}
-use Rattle.rename_ref.proofs.Alls.{all_weaken, all_both, all_map, append_same, and_same, or_same}
+use Rattle.rename_ref.proofs.Alls.{all_weaken, all_both, append_same, and_same, or_same}
 
 -- ---- two names swapped
 
@@ -24,16 +25,13 @@ abbrev pub swapped : List ℕ → List ℕ → List ℕ → List ℕ
 swapped old new name = if bytes_eq name old then new else if bytes_eq name new then old else name
 
 -- names of the same bytes are the same
-same_name : (a b : List ℕ) → bytes_eq a b ≡ true → a ≡ b
-same_name a b e = (bytes_eq-Decides a b).0 e
-
 -- and back
 is_same : (a b : List ℕ) → a ≡ b → bytes_eq a b ≡ true
 is_same a b e = (bytes_eq-Decides a b).1 e
 
 -- the new name goes to the old one
 swapped_new : (old new : List ℕ) → swapped old new new ≡ old
-swapped_new old new = go (bytes_eq new old) (same_name new old)
+swapped_new old new = go (bytes_eq new old) (bytes_eq-Decides new old).0
   where
     go : (t : Bool) → (t ≡ true → new ≡ old) → (if t then new else if bytes_eq new new then old else new) ≡ old
     go true h = h refl
@@ -48,15 +46,15 @@ swapped_twice : (old new name : List ℕ) → swapped old new (swapped old new n
 swapped_twice old new name = go (bytes_eq name old) refl (bytes_eq name new) refl
   where
     go : (s : Bool) → bytes_eq name old ≡ s → (t : Bool) → bytes_eq name new ≡ t → swapped old new (if s then new else if t then old else name) ≡ name
-    go true e t d = swapped_new old new ∙ sym (same_name name old e)
-    go false e true d = swapped_old old new ∙ sym (same_name name new d)
+    go true e t d = swapped_new old new ∙ sym ((bytes_eq-Decides name old).0 e)
+    go false e true d = swapped_old old new ∙ sym ((bytes_eq-Decides name new).0 d)
     go false e false d = rw (e, d) refl
 
 -- Two names are the same after a swap just where they are before it.
 pub swapped_same : (old new a b : List ℕ) → bytes_eq (swapped old new a) (swapped old new b) ≡ bytes_eq a b
 swapped_same old new a b =
     same_from_decides {P = a ≡ b} (bytes_eq (swapped old new a) (swapped old new b)) (bytes_eq a b) (
-      (λ e. sym (swapped_twice old new a) ∙ ap (swapped old new) (same_name (swapped old new a) (swapped old new b) e) ∙ swapped_twice old new b),
+      (λ e. sym (swapped_twice old new a) ∙ ap (swapped old new) ((bytes_eq-Decides (swapped old new a) (swapped old new b)).0 e) ∙ swapped_twice old new b),
       (λ e. is_same (swapped old new a) (swapped old new b) (ap (swapped old new) e)),
     )
     (bytes_eq-Decides a b)
@@ -117,7 +115,7 @@ module _ (f : List ℕ → List ℕ) where
 
   -- each row has one
   rows_map : (rows : List (List (List ℕ))) → list_all is_some_row rows ≡ true → list_all is_some_row (map (map f) rows) ≡ true
-  rows_map rows h = all_map is_some_row (map f) rows ∙ all_weaken is_some_row (λ row. is_some_row (map f row)) some_row_map rows h
+  rows_map rows h = list_all-map is_some_row (map f) rows ∙ all_weaken is_some_row (λ row. is_some_row (map f row)) some_row_map rows h
 
   -- the names of a row
   abbrev self : List (List ℕ) → List (List ℕ)
@@ -220,7 +218,7 @@ module _ (f : List ℕ → List ℕ) where
       known =
           ap (λ (vs : List (List ℕ)). list_all (is_among vs) (flat_map statement_names (map (map_statement f) p.statements))) (variables_map p)
           ∙ ap (list_all (is_among (map f (variables p)))) (statements_names_map p.statements)
-          ∙ all_map (is_among (map f (variables p))) f (flat_map statement_names p.statements)
+          ∙ list_all-map (is_among (map f (variables p))) f (flat_map statement_names p.statements)
           ∙ all_weaken (is_among (variables p)) (λ n. is_among (map f (variables p)) (f n)) (λ n e. among_map (variables p) n ∙ e) (flat_map statement_names p.statements) c.known;
     }
 
@@ -234,13 +232,13 @@ among_passes q (other ∷ names) a name e =
     go (or_cases (bytes_eq other name) (is_among names name) e) s.0 (among_passes q names s.1 name)
   where
     go : (bytes_eq other name ≡ true) ⊎ (is_among names name ≡ true) → q other ≡ true → (is_among names name ≡ true → q name ≡ true) → q name ≡ true
-    go (inl d) h r = ap q (sym (same_name other name d)) ∙ h
+    go (inl d) h r = ap q (sym ((bytes_eq-Decides other name).0 d)) ∙ h
     go (inr d) h r = r d
 
 -- a free name for another leaves all names free
 pub free_swapped : (old new : List ℕ) → is_free_name new ≡ true → (names : List (List ℕ)) → list_all is_free_name names ≡ true → list_all (is_other new) names ≡ true → list_all is_free_name (map (swapped old new) names) ≡ true
 free_swapped old new free names all others =
-    all_map is_free_name (swapped old new) names ∙ all_both is_free_name (is_other new) (λ n. is_free_name (swapped old new n)) each names all others
+    list_all-map is_free_name (swapped old new) names ∙ all_both is_free_name (is_other new) (λ n. is_free_name (swapped old new n)) each names all others
   where
     pick : (name : List ℕ) (t : Bool) → is_free_name name ≡ true → is_free_name (if t then new else name) ≡ true
     pick name true h = free

@@ -5,6 +5,7 @@ use Rattle.std.proofs.lemmas.Bool.{and_parts, and_from}
 use Rattle.ftn_base.specs.Keywords.{is_keyword, is_intrinsic}
 use Rattle.ftn_base.specs.Names.{is_name}
 use Rattle.std.specs.List.{onto_first}
+use Rattle.std.proofs.lemmas.List.Folds.{list_all-map}
 use Rattle.ftn_base.specs.Limits.{name_limit}
 use Rattle.ftn_base.specs.declared.name.Edition.TheVariants.{F90}
 use Rattle.free_scan.specs.Spelling.{Lexeme, word, whole, mark, lexeme, lexeme_of, lexeme_rows, token_lines, rows_of, is_some_row, commas, spell_declaration, spell_statement, spell_program}
@@ -17,7 +18,7 @@ use Rattle.ftn_tree.specs.declared.token.Token.{Token}
 use Rattle.ftn_tree.specs.declared.token.TokenKind.TheVariants as kinds
 use Rattle.free_scan.specs.declared.first_form.program.Program.{Program}
 use Rattle.rename_ref.specs.Names.{is_name_token, name_tokens}
-use Rattle.rename_ref.proofs.Alls.{all_weaken, all_both, all_append_parts, all_map, all_flat, all_filter, all_from_filter, find_none}
+use Rattle.rename_ref.proofs.Alls.{all_weaken, all_both, all_append_parts, all_flat, all_filter, all_from_filter, find_none}
 use Rattle.rename_ref.proofs.CleanRenamed.{is_other}
 
 -- the lexeme is a word of statements, or another word, or no word
@@ -78,8 +79,8 @@ rows_say_other new pieces e =
     let b = all_from_filter (λ (token : Token). not (bytes_eq token.value new)) is_name_token (tokens_among pieces) a in
     let c = pieces_say new pieces b in
     let d = all_filter (list_all (piece_says_other new)) is_some_row (token_lines pieces) (all_token_lines (piece_says_other new) pieces c) in
-    all_map (list_all (says_other new)) (map lexeme_of) (rows_of pieces)
-    ∙ all_weaken (list_all (piece_says_other new)) (λ (row : List PlacedPiece). list_all (says_other new) (map lexeme_of row)) (λ row h. all_map (says_other new) lexeme_of row ∙ h) (rows_of pieces) d
+    list_all-map (list_all (says_other new)) (map lexeme_of) (rows_of pieces)
+    ∙ all_weaken (list_all (piece_says_other new)) (λ (row : List PlacedPiece). list_all (says_other new) (map lexeme_of row)) (λ row h. list_all-map (says_other new) lexeme_of row ∙ h) (rows_of pieces) d
 
 -- ---- the names of a program are among its words
 
@@ -101,7 +102,7 @@ declared_say : (q : Lexeme → Bool) (names : List (List ℕ)) → list_all q (s
 declared_say q names a =
     let s = and_parts (q (word (codes "integer"))) (q (mark (codes "::")) && list_all q (commas (map alone names))) a in
     let t = and_parts (q (mark (codes "::"))) (list_all q (commas (map alone names))) s.1 in
-    let u : list_all (λ name. list_all q (alone name)) names ≡ true = sym (all_map (list_all q) alone names) ∙ all_commas q (map alone names) t.1 in
+    let u : list_all (λ name. list_all q (alone name)) names ≡ true = sym (list_all-map (list_all q) alone names) ∙ all_commas q (map alone names) t.1 in
     all_weaken (λ name. list_all q (alone name)) (λ name. q (word name)) (λ name h. (and_parts (q (word name)) true h).0) names u
 
 -- the names of a program are among its words
@@ -112,7 +113,7 @@ names_say q p a =
     let name : q (word p.name) ≡ true = (and_parts (q (word p.name)) true t.1).0 in
     let u = all_append_parts (list_all q) (map spell_declaration p.declared ++ map spell_statement p.statements) ((word (codes "end") ∷ word (codes "program") ∷ word p.name ∷ []) ∷ []) s.1 in
     let v = all_append_parts (list_all q) (map spell_declaration p.declared) (map spell_statement p.statements) u.0 in
-    let w : list_all (λ names. list_all q (spell_declaration names)) p.declared ≡ true = sym (all_map (list_all q) spell_declaration p.declared) ∙ v.0 in
+    let w : list_all (λ names. list_all q (spell_declaration names)) p.declared ≡ true = sym (list_all-map (list_all q) spell_declaration p.declared) ∙ v.0 in
     let x : list_all (λ names. list_all (λ name. q (word name)) names) p.declared ≡ true = all_weaken (λ names. list_all q (spell_declaration names)) (λ names. list_all (λ name. q (word name)) names) (declared_say q) p.declared w in
     and_from (q (word p.name)) (list_all (λ name. q (word name)) (variables p)) name (all_flat (λ name. q (word name)) self p.declared x)
   where

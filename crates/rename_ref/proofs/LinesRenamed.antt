@@ -22,7 +22,7 @@ use Rattle.rename_ref.proofs.Alls.{all_weaken, all_append_parts, all_append}
 use Rattle.rename_ref.proofs.Fronts.{in_comment, front_is, FrontIs, line_end, blank, comment, word, whole, one, front_some, mark_is, run_at, no_pair, two_marks, found, same_piece}
 use Rattle.rename_ref.proofs.Chunks.{is_word_piece, Chunk, joined, AreFronts, is_old, tokens_where, token_at}
 use Rattle.rename_ref.proofs.PiecesRenamed.{put}
-use Rattle.rename_ref.proofs.TokensRenamed.{map_onto_first}
+use Rattle.free_scan.proofs.Rows.{map_onto}
 
 -- ---- a piece is the end of a line, or has none in it
 
@@ -176,7 +176,7 @@ lines_put old new (c ∷ cs) = go (is_line_end c.0) (lines_put old new cs)
     go : (t : Bool) → chunk_lines (map (put old new) cs) ≡ map (map (put old new)) (chunk_lines cs)
         → (if t then (put old new c ∷ []) ∷ chunk_lines (map (put old new) cs) else onto_first (put old new c) (chunk_lines (map (put old new) cs))) ≡ map (map (put old new)) (if t then (c ∷ []) ∷ chunk_lines cs else onto_first c (chunk_lines cs))
     go true r = ap (λ (ls : List (List Chunk)). (put old new c ∷ []) ∷ ls) r
-    go false r = ap (onto_first (put old new c)) r ∙ sym (map_onto_first (put old new) c (chunk_lines cs))
+    go false r = ap (onto_first (put old new c)) r ∙ sym (map_onto (put old new) c (chunk_lines cs))
 
 -- each piece of each line is so
 abbrev pub AreFineLines : List (List Chunk) → Type 0

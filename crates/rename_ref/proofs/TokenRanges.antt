@@ -20,6 +20,7 @@ use Rattle.rename_ref.specs.declared.edits.Edit.{Edit}
 use Rattle.rename_ref.specs.Edits.{fit, replacing}
 use Rattle.rename_ref.specs.Names.{is_name_token, denoting}
 use Rattle.rename_ref.proofs.EditSteps.{fits_from_first, fits_before}
+use Rattle.free_scan.proofs.ReadTrue.{mapped}
 
 -- the piece, if there is one, has at least one byte and at most so many
 pub record Sized (most : ℕ) (found : Option Piece) : Type 0 where
@@ -143,18 +144,12 @@ filter_twice p q (token ∷ tokens) =
       | false ↦ filter_twice p q tokens
     ]
 
-some_parts : {X Y : Type 0} (f : X → Y) (found : Option X) (y : Y) → option_map f found ≡ Some y → (x : X) × (found ≡ Some x) × (f x ≡ y)
-some_parts f None y e = absurd (cc)
-some_parts f (Some x) y e =
-    let same : f x ≡ y = cc in
-    (x, refl, same)
-
 -- the edits that replace those of a text's tokens that a test keeps fit the text
 pub kept_fit : (text : List ℕ) (tokens : List Token) (keeps : Token → Bool) (new : List ℕ) → tokens_of text ≡ Some tokens
     → IsTrue (fit 0 text (replacing new (filter keeps tokens)))
 kept_fit text tokens keeps new e =
-    let placed = some_parts tokens_among (placed_pieces_of text) tokens e in
-    let parts = some_parts (placed_pieces_from 0 1 text) (pieces_of text) placed.0 placed.1 in
+    let placed = mapped tokens_among (placed_pieces_of text) tokens e in
+    let parts = mapped (placed_pieces_from 0 1 text) (pieces_of text) placed.0 placed.1 in
     subst (λ found. IsTrue (fit 0 text (replacing new (filter keeps found)))) (ap tokens_among parts.2 ∙ placed.2) (tokens_fit (length text) 0 1 text parts.0 keeps new parts.1)
 
 -- the edits that replace the tokens of one name fit the text

@@ -21,6 +21,7 @@ use Rattle.rename_ref.specs.Renaming.{renamed}
 use Rattle.rename_ref.proofs.Fronts.{front_some}
 use Rattle.rename_ref.proofs.Chunks.{is_word_piece, Chunk, joined, AreFronts, is_old, is_name_chunk, tokens_where, token_at, placed_at, placed_in}
 use Rattle.rename_ref.proofs.PiecesRenamed.{put}
+use Rattle.free_scan.proofs.Rows.{map_onto}
 
 -- ---- where the edits put a place
 
@@ -212,11 +213,6 @@ map_lexeme f (word v) = word (f v)
 map_lexeme f (whole n) = whole n
 map_lexeme f (mark m) = mark m
 
--- a map of lists, with one element more in front of the first
-pub map_onto_first : {X Y : Type 0} (f : X → Y) (x : X) (xss : List (List X)) → map (map f) (onto_first x xss) ≡ onto_first (f x) (map (map f) xss)
-map_onto_first f x [] = refl
-map_onto_first f x (xs ∷ xss) = refl
-
 -- a map keeps the rows that have an element
 pub map_rows : {X Y : Type 0} (f : X → Y) (xss : List (List X)) → map (map f) (filter is_some_row xss) ≡ filter is_some_row (map (map f) xss)
 map_rows f [] = refl
@@ -235,8 +231,8 @@ lexeme_rows_is pieces = map_rows lexeme_of (token_lines pieces)
 one_more : (t u : PlacedPiece) (ts us : List PlacedPiece) (f : Lexeme → Lexeme) → lexeme_of u ≡ f (lexeme_of t) → lexeme_lines us ≡ map (map f) (lexeme_lines ts)
     → map (map lexeme_of) (onto_first u (token_lines us)) ≡ map (map f) (map (map lexeme_of) (onto_first t (token_lines ts)))
 one_more t u ts us f e r =
-    map_onto_first lexeme_of u (token_lines us) ∙ ap (λ (x : Lexeme). onto_first x (lexeme_lines us)) e ∙ ap (onto_first (f (lexeme_of t))) r
-    ∙ sym (map_onto_first f (lexeme_of t) (lexeme_lines ts)) ∙ ap (map (map f)) (sym (map_onto_first lexeme_of t (token_lines ts)))
+    map_onto lexeme_of u (token_lines us) ∙ ap (λ (x : Lexeme). onto_first x (lexeme_lines us)) e ∙ ap (onto_first (f (lexeme_of t))) r
+    ∙ sym (map_onto f (lexeme_of t) (lexeme_lines ts)) ∙ ap (map (map f)) (sym (map_onto lexeme_of t (token_lines ts)))
 
 -- each line of lexemes has the partners of its words
 lines_renamed : (old new : List ℕ) (at now line other : ℕ) (cs : List Chunk)

@@ -212,7 +212,7 @@ module _ {A B : Type 0} (pick : A → Option B) (piece : Piece A) (phrase : B �
     complete = complete_picked;
   }
 
-plain : {A : Type 0} (found : Outcome A) → found ≡ and_then found (λ a. pure a)
+pub plain : {A : Type 0} (found : Outcome A) → found ≡ and_then found (λ a. pure a)
 plain (Some found) = refl
 plain None = refl
 

@@ -34,6 +34,7 @@ use Rattle.ftn_tree.proofs.PhraseLaws.{add_none, drop_none}
 use Rattle.spec_parse.proofs.Seen.{seen, unseen}
 use Rattle.spec_parse.proofs.Told.{told, told_phrase}
 use Rattle.spec_parse.proofs.TypePieces.{itself}
+use Rattle.spec_parse.proofs.Lengths.{whole_no_word}
 
 -- ---- signs
 
@@ -268,10 +269,6 @@ constant_piece = reread constant_choice spec.data_constant constant_read
 pub repeat_back : (c : Repeat) (at : ℕ) (tokens : List Token) → form.repeat c at tokens → ((n : ℕ) × (repeats.Named n ≡ c) × name n at tokens) ⊎ ((b : ℕ × ℤ) × (spec.whole_repeat b ≡ c) × number_phrase b at tokens)
 repeat_back (repeats.Whole number value) at tokens says = inr ((number, value), refl, says)
 repeat_back (repeats.Named number) at tokens says = inl (number, refl, says)
-
-pub whole_no_word : Apart (only Whole) (only Word)
-unfolding same_lexeme
-whole_no_word = apart (only Whole) (only Word) refl
 
 abbrev repeat_choice : Piece Repeat
 repeat_choice = choice (sees Word) name_piece repeats.Named number_piece spec.whole_repeat form.repeat (λ n at tokens says. says) (λ b at tokens says. says) repeat_back none_of

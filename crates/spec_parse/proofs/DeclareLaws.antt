@@ -21,7 +21,7 @@ use Rattle.ftn_tree.proofs.PhraseLaws.{placed}
 use Rattle.expr_parse.specs.steps.Input.{Input, input, Reader, and_then, pure, ◌>>◌, finish}
 use Rattle.expr_parse.proofs.Pieces.{Piece, Took, Apart, begins, bind_some, took_both, stops_before}
 use Rattle.expr_parse.proofs.AllKinds.{apart}
-use Rattle.expr_parse.proofs.Tokens.{only, word_kind}
+use Rattle.expr_parse.proofs.Tokens.{only}
 use Rattle.expr_parse.proofs.Commas.{tail}
 use Rattle.expr_parse.proofs.Operands.{ReadsExpressions}
 use Rattle.spec_parse.specs.steps.Types.{type_spec}
@@ -34,6 +34,7 @@ use Rattle.spec_parse.proofs.Flags.{flag}
 use Rattle.spec_parse.proofs.Wholes.{GivesForm, row_complete}
 use Rattle.spec_parse.proofs.TypePieces.{type_piece}
 use Rattle.spec_parse.proofs.StatementPieces.{after_type, after_name, entity_piece, attributes_piece, comma_no_entity}
+use Rattle.spec_parse.proofs.Seen.{no_word_at}
 
 comma_no_word : Apart (only Comma) (only Word)
 unfolding same_lexeme
@@ -43,16 +44,12 @@ colons_no_word : Apart (only Colons) (only Word)
 unfolding same_lexeme
 colons_no_word = apart (only Colons) (only Word) refl
 
-no_word : (text : List ℕ) (here : Token) (found : Bool) → is_word text here ≡ found → only Word (lexeme_of here) ≡ false → is_word text here ≡ false
-no_word text here true is e = absurd (cc (sym (word_kind text here is) ∙ e))
-no_word text here false is e = is
-
 -- what doesn't begin with a word doesn't begin with FUNCTION and a name
 other_first : (tokens : List Token) → begins (only Word) tokens ≡ false → begins_function tokens ≡ false
 unfolding begins_function
 other_first [] e = refl
 other_first (here ∷ []) e = refl
-other_first (here ∷ next ∷ rest) e = and_left (is_word (codes "function") here) (same_lexeme (lexeme_of next) Word) (no_word (codes "function") here (is_word (codes "function") here) refl e)
+other_first (here ∷ next ∷ rest) e = and_left (is_word (codes "function") here) (same_lexeme (lexeme_of next) Word) (no_word_at (codes "function") here (is_word (codes "function") here) refl e)
 
 -- nor does what has no word as its second token
 other_second : (here : Token) (rest : List Token) → begins (only Word) rest ≡ false → begins_function (here ∷ rest) ≡ false
@@ -102,9 +99,6 @@ module _ (laws : ReadsExpressions) where
 
   moved_out : (holds : Bool) (one other : Phrase) (at : ℕ) (tokens : List Token) → (one · provided holds other) at tokens → provided holds (one · other) at tokens
   moved_out holds one other at tokens (before, after, split, says, (passes, says_other)) = (passes, (before, after, split, says, says_other))
-
-  moved_in : (holds : Bool) (one other : Phrase) (at : ℕ) (tokens : List Token) → provided holds (one · other) at tokens → (one · provided holds other) at tokens
-  moved_in holds one other at tokens (passes, (before, after, split, says, says_other)) = (before, after, split, says, (passes, says_other))
 
   declare_made : (ty : TypeSpec) (parts : Parts) (at : ℕ) (tokens : List Token) → (type_text ty · (rest_parts ty).phrase parts) at tokens → declaration_at (out-Form (spec.declaration_of ty parts)) at tokens
   unfolding out-Form denote.Hole.Carrier.out

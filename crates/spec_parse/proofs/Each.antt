@@ -1,5 +1,5 @@
 -- A piece and then others of one kind, to the end of the statement.
-use Rattle.std.proofs.Common.{◌≡◌, refl, sym, ◌∙◌, ap, subst, arith, ℕ, zero, suc, ◌+◌, ◌≤◌, Bool, true, false, List, [], ◌∷◌, ◌++◌, length, Option, Some, append_assoc, ◌⊎◌, inl, inr, if◌then◌else◌, add-zero}
+use Rattle.std.proofs.Common.{◌≡◌, refl, sym, ◌∙◌, ap, subst, arith, ℕ, zero, suc, ◌+◌, ◌≤◌, Bool, true, false, List, [], ◌∷◌, ◌++◌, length, Option, Some, append_assoc, ◌⊎◌, inl, inr, if◌then◌else◌, add-zero, le_refl}
 use Rattle.std.proofs.lemmas.List.{append-nil}
 use Rattle.std.proofs.lemmas.Grind.{common_steps}
 use Rattle.std.proofs.lemmas.Option.{some_pair_parts}
@@ -11,6 +11,7 @@ use Rattle.expr_parse.specs.steps.Input.{Input, input, Reader, ◌>>=◌, is_don
 use Rattle.expr_parse.proofs.Pieces.{Piece, Took, Apart, begins, begins_after, bind_some, bind_is, took_both, apart_from}
 use Rattle.expr_parse.proofs.Ends.{any, no_rest}
 use Rattle.spec_parse.specs.steps.Data.{each_from}
+use Rattle.expr_parse.proofs.TokenRows.{none_fits, fewer_after}
 
 not_done : (first : Lexeme → Bool) (tokens : List Token) → begins first tokens ≡ true → done_at tokens ≡ false
 not_done first [] e = absurd (cc e)
@@ -19,15 +20,6 @@ not_done first (here ∷ rest) e = refl
 some_tokens : (first : Lexeme → Bool) (tokens : List Token) → begins first tokens ≡ true → 1 ≤ length tokens
 some_tokens first [] e = absurd (cc e)
 some_tokens first (here ∷ tokens) e = grind (arith, common_steps)
-
-too_few : (before after : List Token) → 1 ≤ length before → length (before ++ after) ≤ 0 → ⊥
-too_few before after e f = grind (arith, common_steps)
-
-few : (n : ℕ) (before after : List Token) → 1 ≤ length before → length (before ++ after) ≤ suc n → length after ≤ n
-few n before after e f = grind (arith, common_steps)
-
-same_length : (tokens : List Token) → length tokens ≤ length tokens
-same_length tokens = omega arith
 
 module _ {A : Type 0} (piece : Piece A) (filled : piece.empty ≡ false) (apart : Apart piece.first piece.more) where
   begun_filled : (a : A) (at : ℕ) (tokens : List Token) → piece.phrase a at tokens → begins piece.first tokens ≡ true
@@ -99,12 +91,12 @@ module _ {A : Type 0} (piece : Piece A) (filled : piece.empty ≡ false) (apart 
   each_complete : (items : List A) (n : ℕ) (found : List A) (at : ℕ) (tokens : List Token) → each piece.phrase items at tokens → length tokens ≤ n → Reads n found items at tokens
   each_complete [] n found at tokens says small = subst (λ tokens. Reads n found [] at tokens) (sym says) (read_none n found at)
   each_complete (a ∷ items) zero found at tokens (before, after, split, says, says_rest) small =
-      absurd (too_few before after (some_tokens piece.first before (begun_filled a at before says)) (subst (λ tokens. length tokens ≤ 0) split small))
+      absurd (none_fits before after (some_tokens piece.first before (begun_filled a at before says)) (subst (λ tokens. length tokens ≤ 0) split small))
   each_complete (a ∷ items) (suc n) found at tokens (before, after, split, says, says_rest) small =
       subst (λ tokens. Reads (suc n) found (a ∷ items) at tokens) (sym split)
       (read_next n found a items at before after says (stops piece.more items (at + length before) after apart says_rest)
       (each_complete items n (found ++ a ∷ []) (at + length before) after says_rest
-      (few n before after (some_tokens piece.first before (begun_filled a at before says)) (subst (λ tokens. length tokens ≤ suc n) split small))))
+      (fewer_after n before after (some_tokens piece.first before (begun_filled a at before says)) (subst (λ tokens. length tokens ≤ suc n) split small))))
 
   -- ---- with another piece before them
 
@@ -136,7 +128,7 @@ module _ {A : Type 0} (piece : Piece A) (filled : piece.empty ≡ false) (apart 
         → read_row (input at (before ++ after)) ≡ Some (first ∷ items, input (at + length (before ++ after)) [])
     row_read first items at before after says says_rest =
         let read = one.complete first at before after says (stops one.more items (at + length before) after before_one says_rest) in
-        let rest = each_complete items (length after) (first ∷ []) (at + length before) after says_rest (same_length after) in
+        let rest = each_complete items (length after) (first ∷ []) (at + length before) after says_rest (le_refl (length after)) in
         bind_is (one.read (input at (before ++ after))) all_from first (input (at + length before) after) (Some (first ∷ items, input (at + length (before ++ after)) [])) read
         (rest ∙ ap (λ place. Some (first ∷ items, input place [])) (placed at before after))
 

@@ -17,11 +17,11 @@ use Rattle.expr_parse.proofs.AllKinds.{within}
 use Rattle.expr_parse.proofs.Tokens.{only, apart_none, name_piece, after_word}
 use Rattle.spec_parse.specs.steps.Endings.{end_word, joined_end_word, word_by, word_of_kind, word_at_front, taken_word, ending_word, ending_words}
 use Rattle.spec_parse.proofs.Either.{rephrased}
-use Rattle.spec_parse.proofs.FirstWords.{text_is}
 use Rattle.spec_parse.proofs.Trailed.{trailed_piece}
 use Rattle.spec_parse.proofs.UnitPieces.{name_only}
 use Rattle.spec_parse.proofs.Valued.{valued, valued_phrase, at_front, taken, read_value}
 use Rattle.spec_parse.proofs.Wholes.{made_of}
+use Rattle.ftn_tree.proofs.Namings.{text_is}
 
 -- ---- the words
 

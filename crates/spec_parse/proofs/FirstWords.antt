@@ -1,19 +1,16 @@
 -- Which row a first word leads to.
 use Rattle.std.proofs.Common.{◌≡◌, sym, ◌∙◌, ap, subst, ℕ, ◌+◌, true, List, [], ◌∷◌, ◌++◌, length, Some}
-use Rattle.std.proofs.lemmas.Slice.Eq.{bytes_eq-Decides}
 use Rattle.ftn_tree.specs.declared.token.Token.{Token}
 use Rattle.ftn_tree.specs.declared.token.TokenKind.{TokenKind}
 use Rattle.ftn_tree.specs.declared.token.TokenKind.TheVariants as kinds
 use Rattle.ftn_tree.specs.declared.form.Form.{Form}
-use Rattle.ftn_tree.specs.Lexemes.{is_word, is_word_at, is_text}
+use Rattle.ftn_tree.specs.Lexemes.{is_word, is_word_at}
 use Rattle.ftn_tree.specs.Phrases.{Phrase, ◌·◌, word}
 use Rattle.expr_parse.specs.steps.Input.{input}
 use Rattle.spec_parse.specs.declared.rows.Row.{Row}
 use Rattle.spec_parse.specs.steps.Rows.{find_row, row_by, row_at_front, row_reader, read_by, statement}
 use Rattle.spec_parse.proofs.Wholes.{GivesForm}
-
-pub text_is : (value text : List ℕ) → is_text value text ≡ true → value ≡ text
-text_is value text e = (bytes_eq-Decides value text).0 e
+use Rattle.ftn_tree.proofs.Namings.{text_is}
 
 by_kind : (kind : TokenKind) (value text : List ℕ) → is_word_at kind value text ≡ true → row_by kind value ≡ Some (find_row text)
 by_kind kinds.Word value text e = ap (λ text. Some (find_row text)) (text_is value text e)

@@ -1,9 +1,10 @@
 -- COMMON is read as it is written.
-use Rattle.std.proofs.Common.{◌≡◌, refl, sym, ◌∙◌, ap, subst, arith, ℕ, zero, suc, ◌+◌, ◌≤◌, Bool, true, false, ◌&&◌, not, List, [], ◌∷◌, ◌++◌, length, Option, Some, append_assoc, ◌⊎◌, inl, inr, codes, if◌then◌else◌, add-zero}
+use Rattle.std.proofs.Common.{◌≡◌, refl, sym, ◌∙◌, ap, subst, arith, ℕ, zero, suc, ◌+◌, ◌≤◌, Bool, true, false, ◌&&◌, not, List, [], ◌∷◌, ◌++◌, length, Option, Some, append_assoc, ◌⊎◌, inl, inr, codes, if◌then◌else◌, add-zero, le_refl}
 use Rattle.std.proofs.lemmas.List.{append-nil}
 use Rattle.std.proofs.lemmas.Grind.{common_steps}
 use Rattle.std.proofs.lemmas.Option.{some_pair_parts}
 use Rattle.std.proofs.lemmas.Bool.{and_left}
+use Rattle.std.proofs.Math.Bool.{and-false}
 use denote.Hole.Carrier
 use Rattle.ftn_tree.specs.declared.token.Token.{Token}
 use Rattle.ftn_tree.specs.declared.form.Form.{out-Form}
@@ -31,8 +32,9 @@ use Rattle.spec_parse.specs.steps.Blocks.{members, goes_on, is_slash_at, first_g
 use Rattle.spec_parse.proofs.Flags.{flag}
 use Rattle.ftn_tree.proofs.PhraseLaws.{to_right, to_left, add_none, drop_none, placed}
 use Rattle.spec_parse.proofs.Wholes.{Sound, GivesForm, row_sound, row_complete}
-use Rattle.spec_parse.proofs.Members.{is_slash, slash_is, Stops, members_sound, members_complete, members_named}
+use Rattle.spec_parse.proofs.Members.{is_slash, slash_is, Stops, members_sound, members_complete, members_named, comma_no_open}
 use Rattle.spec_parse.proofs.Groups.{block_text, block_piece, block_begins, first_piece}
+use Rattle.expr_parse.proofs.TokenRows.{none_fits, fewer_after}
 
 -- ---- what follows a group
 
@@ -44,15 +46,8 @@ slash_no_open : Apart is_slash (only Open)
 unfolding same_lexeme
 slash_no_open = apart is_slash (only Open) refl
 
-comma_no_open : Apart (only Comma) (only Open)
-unfolding same_lexeme
-comma_no_open = apart (only Comma) (only Open) refl
-
 right_false : (a b : Bool) → b ≡ true → (a && not b) ≡ false
-right_false a true e = by a where
-  by : (a : Bool) → (a && false) ≡ false
-  by true = refl
-  by false = refl
+right_false a true e = and-false a
 right_false a false e = absurd (cc e)
 
 no_comma : (at : ℕ) (tokens : List Token) → begins (only Comma) tokens ≡ false → goes_on (input at tokens) ≡ false
@@ -260,12 +255,6 @@ module _ (laws : ReadsExpressions) where
     by [] e = absurd (cc e)
     by (here ∷ tokens) e = grind (arith, common_steps)
 
-  too_few : (before after : List Token) → 1 ≤ length before → length (before ++ after) ≤ 0 → ⊥
-  too_few before after e f = grind (arith, common_steps)
-
-  few : (n : ℕ) (before after : List Token) → 1 ≤ length before → length (before ++ after) ≤ suc n → length after ≤ n
-  few n before after e f = grind (arith, common_steps)
-
   read_next : (n : ℕ) (found : List CommonGroup) (g : CommonGroup) (items : List CommonGroup) (at : ℕ) (before after : List Token) → later_text g at before → Stops after
       → Reads n (found ++ g ∷ []) items (at + length before) after → Reads (suc n) found (g ∷ items) at (before ++ after)
   unfolding groups_from is_done
@@ -279,11 +268,11 @@ module _ (laws : ReadsExpressions) where
   groups_complete : (items : List CommonGroup) (n : ℕ) (found : List CommonGroup) (at : ℕ) (tokens : List Token) → form.later_groups items at tokens → length tokens ≤ n → Reads n found items at tokens
   groups_complete [] n found at tokens says small = subst (λ tokens. Reads n found [] at tokens) (sym says) (read_none n found at)
   groups_complete (g ∷ items) zero found at tokens (before, after, split, says, says_rest) small =
-      absurd (too_few before after (grown g at before says) (subst (λ tokens. length tokens ≤ 0) split small))
+      absurd (none_fits before after (grown g at before says) (subst (λ tokens. length tokens ≤ 0) split small))
   groups_complete (g ∷ items) (suc n) found at tokens (before, after, split, says, says_rest) small =
       subst (λ tokens. Reads (suc n) found (g ∷ items) at tokens) (sym split)
       (read_next n found g items at before after says (later_stops items (at + length before) after says_rest)
-      (groups_complete items n (found ++ g ∷ []) (at + length before) after says_rest (few n before after (grown g at before says) (subst (λ tokens. length tokens ≤ suc n) split small))))
+      (groups_complete items n (found ++ g ∷ []) (at + length before) after says_rest (fewer_after n before after (grown g at before says) (subst (λ tokens. length tokens ≤ suc n) split small))))
 
   -- ---- the statement
 
@@ -302,14 +291,11 @@ module _ (laws : ReadsExpressions) where
       let found = groups_sound (length k.rest) (first ∷ []) all k j rest in
       all_taken first all found.items i k j found.is (first_sound i first k read) found.took
 
-  same_length : (tokens : List Token) → length tokens ≤ length tokens
-  same_length tokens = omega arith
-
   all_read : (first : CommonGroup) (items : List CommonGroup) (at : ℕ) (before after : List Token) → first_text first at before → form.later_groups items (at + length before) after
       → groups (input at (before ++ after)) ≡ Some (first ∷ items, input (at + length (before ++ after)) [])
   all_read first items at before after says says_rest =
       let one = first_by first.comma first.block first.members at before after says (later_stops items (at + length before) after says_rest) in
-      let rest = groups_complete items (length after) (first ∷ []) (at + length before) after says_rest (same_length after) in
+      let rest = groups_complete items (length after) (first ∷ []) (at + length before) after says_rest (le_refl (length after)) in
       bind_is (first_group (input at (before ++ after))) all_groups first (input (at + length before) after) (Some (first ∷ items, input (at + length (before ++ after)) [])) one
       (rest ∙ ap (λ place. Some (first ∷ items, input place [])) (placed at before after))
 

@@ -9,14 +9,14 @@ use Rattle.ftn_tree.specs.declared.lexeme.Lexeme.TheVariants.{Divide, Concat}
 use Rattle.ftn_tree.specs.Lexemes.{lexeme_of, same_lexeme}
 use Rattle.ftn_tree.specs.Phrases.{Phrase, nothing, never, ◌·◌, mark, mark_at, name}
 use Rattle.ftn_tree.specs.SpecificationForms as form
-use Rattle.expr_parse.specs.steps.Input.{Input, input, and_then, pure, sees, peek}
+use Rattle.expr_parse.specs.steps.Input.{Input, input, pure, sees, peek}
 use Rattle.expr_parse.specs.steps.Combinators.{◌<$>◌}
 use Rattle.expr_parse.proofs.Pieces.{Piece, Took, Apart, begins, seq, reread}
 use Rattle.expr_parse.proofs.AllKinds.{apart, within}
 use Rattle.expr_parse.proofs.Tokens.{only, none_of, apart_none, mark_piece, name_piece, before_mark, bare_made, bare_back}
 use Rattle.spec_parse.specs.steps.Blocks as spec
 use Rattle.spec_parse.specs.steps.Blocks.{rest_of_block, block, first_block, sees_slash}
-use Rattle.spec_parse.proofs.Choices.{choice}
+use Rattle.spec_parse.proofs.Choices.{choice, plain}
 use Rattle.spec_parse.proofs.Seen.{seen, unseen}
 use Rattle.spec_parse.proofs.TypePieces.{itself}
 use Rattle.spec_parse.proofs.Members.{is_slash, slash_is}
@@ -87,24 +87,18 @@ block_piece = reread block_choice block block_read
 
 -- ---- the block of the first group
 
-nothing_sound : (i : Input) (u : Unit {0}) (j : Input) → pure {A = Unit {0}} tt i ≡ Some (u, j) → Took nothing i j
+pub nothing_sound : (i : Input) (u : Unit {0}) (j : Input) → pure {A = Unit {0}} tt i ≡ Some (u, j) → Took nothing i j
 nothing_sound i u j e =
     let same = some_pair_parts {A = Unit {0}} tt u i j e in
     subst (λ j. Took nothing i j) same.1 (record { tokens = []; rest = refl; at = sym (add-zero i.at); says = refl })
 
-nothing_complete : (u : Unit {0}) (at : ℕ) (tokens rest : List Token) → nothing at tokens → begins none_of rest ≡ false → pure {A = Unit {0}} tt (input at (tokens ++ rest)) ≡ Some (u, input (at + length tokens) rest)
+pub nothing_complete : (u : Unit {0}) (at : ℕ) (tokens rest : List Token) → nothing at tokens → begins none_of rest ≡ false → pure {A = Unit {0}} tt (input at (tokens ++ rest)) ≡ Some (u, input (at + length tokens) rest)
 nothing_complete u at tokens rest says stops =
     subst (λ tokens. pure {A = Unit {0}} tt (input at (tokens ++ rest)) ≡ Some (u, input (at + length tokens) rest)) (sym says)
     (ap (λ place. Some (tt, input place rest)) (sym (add-zero at)))
 
 pub nothing_begun : (u : Unit {0}) (at : ℕ) (tokens : List Token) → nothing at tokens → (begins none_of tokens ≡ true) ⊎ ((tokens ≡ []) × (true ≡ true))
 nothing_begun u at tokens says = inr (says, refl)
-
-pub nothing_took : (i : Input) (u : Unit {0}) (j : Input) → pure {A = Unit {0}} tt i ≡ Some (u, j) → Took nothing i j
-nothing_took = nothing_sound
-
-pub nothing_gives : (u : Unit {0}) (at : ℕ) (tokens rest : List Token) → nothing at tokens → begins none_of rest ≡ false → pure {A = Unit {0}} tt (input at (tokens ++ rest)) ≡ Some (u, input (at + length tokens) rest)
-nothing_gives = nothing_complete
 
 abbrev pub nothing_piece : Piece (Unit {0})
 nothing_piece = record {
@@ -114,8 +108,8 @@ nothing_piece = record {
   empty = true;
   more = none_of;
   begun = nothing_begun;
-  sound = nothing_took;
-  complete = nothing_gives;
+  sound = nothing_sound;
+  complete = nothing_complete;
 }
 
 pub first_made : (b : BlockName) (at : ℕ) (tokens : List Token) → block_text b at tokens → form.block_name b at tokens
@@ -157,10 +151,6 @@ shows_none u at tokens rest says stops none = subst (λ tokens. sees_slash (inpu
 
 abbrev pub first_choice : Piece BlockName
 first_choice = choice sees_slash block_piece (λ b. b) nothing_piece spec.unwritten form.block_name first_made (λ u at tokens says. says) first_back is_slash shows_slash shows_none
-
-plain : {A : Type 0} (found : Option (A × Input)) → found ≡ and_then found (λ a. pure a)
-plain (Some found) = refl
-plain None = refl
 
 pub first_read : (i : Input) → first_block i ≡ first_choice.read i
 unfolding first_block

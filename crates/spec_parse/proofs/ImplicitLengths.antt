@@ -1,5 +1,5 @@
 -- Lengths in IMPLICIT statements, which are whole numbers, as pieces.
-use Rattle.std.proofs.Common.{◌≡◌, refl, sym, ◌∙◌, subst, ℕ, ℤ, Bool, true, false, ◌||◌, ◌&&◌, List, ◌⊎◌, inl, inr, codes}
+use Rattle.std.proofs.Common.{◌≡◌, refl, sym, ◌∙◌, subst, ℕ, ℤ, Bool, true, false, List, ◌⊎◌, inl, inr, codes}
 use denote.Hole.Carrier
 use Rattle.ftn_tree.specs.declared.token.Token.{Token}
 use Rattle.ftn_tree.specs.declared.expr.Expr.{Expr, out-Expr}
@@ -24,9 +24,9 @@ use Rattle.expr_parse.proofs.Pieces.{Piece, Apart, mapped}
 use Rattle.expr_parse.proofs.Tokens.{only, none_of, apart_none, after_word, after_mark, before_mark, parens}
 use Rattle.spec_parse.proofs.Choices.{choice}
 use Rattle.spec_parse.proofs.Either.{either}
-use Rattle.spec_parse.proofs.Lengths.{is_whole, whole_is}
+use Rattle.spec_parse.proofs.Lengths.{is_whole, whole_is, whole_no_open, whole_no_word}
 use Rattle.spec_parse.proofs.Numbers.{number_phrase, number_piece}
-use Rattle.spec_parse.proofs.Seen.{seen, unseen, after_mark_first}
+use Rattle.spec_parse.proofs.Seen.{seen, unseen, after_mark_first, first_or}
 
 -- ---- a condition on a part is one on the whole
 
@@ -96,10 +96,6 @@ star_back (Star (chars.Paren Assumed)) at tokens (passes, says) = absurd (cc pas
 star_back (Star (chars.Paren (Given found))) at tokens says = inl (found, refl, into_parens (is_whole_at (out-Expr found)) (expr found) at tokens says)
 star_back (Paren has_word found) at tokens says = absurd says
 
-pub whole_no_open : Apart (only Whole) (only Open)
-unfolding same_lexeme
-whole_no_open = apart (only Whole) (only Open) refl
-
 abbrev pub star_piece : Piece LengthSelector
 star_piece = choice (sees Open) paren_given in_parens_of number_piece alone_of star_text paren_made alone_made star_back none_of
     (seen paren_given Open refl (after_mark_first Open (before_mark given_piece Close (apart_none (only Close)))))
@@ -137,16 +133,8 @@ pub len_back : (both : Bool × Expr) (at : ℕ) (tokens : List Token) → len_ph
     → ((a : Expr) × (with_word a ≡ both) × named_given.phrase a at tokens) ⊎ ((b : Expr) × (without_word b ≡ both) × given_phrase b at tokens)
 len_back both at tokens says = len_back_by both.0 both.1 at tokens says
 
-pub first_or : (a b : Bool) → (a || (false && b)) ≡ true → a ≡ true
-first_or true b is = refl
-first_or false b is = is
-
 pub named_first : (kind : Lexeme) → named_given.first kind ≡ true → only Word kind ≡ true
 named_first kind is = first_or (only Word kind) ((after_mark Equals given_piece).first kind) is
-
-pub whole_no_word : Apart (only Whole) (only Word)
-unfolding same_lexeme
-whole_no_word = apart (only Whole) (only Word) refl
 
 abbrev pub len_piece : Piece (Bool × Expr)
 len_piece = choice (sees Word) named_given with_word given_piece without_word len_phrase named_made bare_made len_back none_of

@@ -26,13 +26,13 @@ use Rattle.expr_parse.proofs.Pieces.{Piece, Apart, begins, seq}
 use Rattle.expr_parse.proofs.Tokens.{only, none_of, word_piece, word_made, word_back, after_word, is_same}
 use Rattle.spec_parse.specs.steps.Implicits.{group_of, is_plain, is_length}
 use Rattle.spec_parse.proofs.Either.{either, rephrased}
-use Rattle.spec_parse.proofs.FirstWords.{text_is}
 use Rattle.spec_parse.proofs.ImplicitLengths.{length_piece, length_made, length_back, given_piece, paren_text}
 use Rattle.spec_parse.proofs.Letters.{ranges_piece}
 use Rattle.ftn_tree.proofs.PhraseLaws.{led_by, drop_end, add_end}
 use Rattle.spec_parse.proofs.Seen.{Starts, starts_word_at, starts_first, shows, hides}
 use Rattle.spec_parse.proofs.Wholes.{made_of, image}
 use Rattle.spec_parse.proofs.WordKinds.{is_word_kind}
+use Rattle.ftn_tree.proofs.Namings.{text_is}
 
 -- ---- types
 

@@ -33,6 +33,10 @@ pub starts_no_times : Apart starts (only Times)
 unfolding same_lexeme
 starts_no_times = apart starts (only Times) refl
 
+pub whole_no_word : Apart (only Whole) (only Word)
+unfolding same_lexeme
+whole_no_word = apart (only Whole) (only Word) refl
+
 pub whole_no_open : Apart (only Whole) (only Open)
 unfolding same_lexeme
 whole_no_open = apart (only Whole) (only Open) refl

@@ -1,6 +1,5 @@
 -- The members of a group of COMMON are read as they are written.
 use Rattle.std.proofs.Common.{◌≡◌, refl, sym, ◌∙◌, ap, subst, arith, ℕ, zero, suc, ◌+◌, ◌≤◌, Bool, true, false, ◌||◌, ◌&&◌, not, List, [], ◌∷◌, ◌++◌, length, Option, Some, append_assoc, ◌⊎◌, inl, inr, if◌then◌else◌}
-use Rattle.std.proofs.lemmas.List.{append-nil}
 use Rattle.std.proofs.lemmas.Grind.{common_steps}
 use Rattle.std.proofs.lemmas.Option.{some_pair_parts}
 use Rattle.std.specs.Cmp.{first_so}
@@ -11,17 +10,18 @@ use Rattle.ftn_tree.specs.declared.parts.CommonMember.{CommonMember}
 use Rattle.ftn_tree.specs.declared.lexeme.Lexeme.{Lexeme}
 use Rattle.ftn_tree.specs.declared.lexeme.Lexeme.TheVariants.{Word, Comma, Divide, Concat, Open}
 use Rattle.ftn_tree.specs.Lexemes.{lexeme_of, same_lexeme}
-use Rattle.ftn_tree.specs.Phrases.{Phrase, nothing, ◌·◌, mark, commas, after_commas}
+use Rattle.ftn_tree.specs.Phrases.{nothing, ◌·◌, mark, commas, after_commas}
 use Rattle.ftn_tree.specs.SpecificationForms as form
 use Rattle.expr_parse.specs.steps.Input.{Input, input, Reader, ◌>>=◌, after, after_if, eat, sees, peek_second}
 use Rattle.expr_parse.proofs.Pieces.{Piece, Took, Apart, begins, bind_some, bind_is, took_both, seq, mapped, reread}
 use Rattle.expr_parse.proofs.Tokens.{only, apart_none, name_piece, is_same}
-use Rattle.expr_parse.proofs.Lists.{took_mark}
+use Rattle.expr_parse.proofs.Lists.{took_mark, took_alone}
 use Rattle.expr_parse.proofs.AllKinds.{apart}
 use Rattle.expr_parse.proofs.Operands.{ReadsExpressions}
 use Rattle.spec_parse.specs.steps.Blocks as spec
 use Rattle.spec_parse.specs.steps.Blocks.{member, members, members_from, goes_on, is_slash_at}
 use Rattle.spec_parse.proofs.BoundPieces.{maybe_bounds_piece}
+use Rattle.expr_parse.proofs.TokenRows.{regrouped, none_left, enough, grown, too_few, after_comma, fewer_later}
 
 -- a mark that begins a block
 abbrev pub is_slash : Lexeme → Bool
@@ -49,13 +49,9 @@ comma_goes_on comma at (next ∷ later) is e =
     and_from (same_lexeme (lexeme_of comma) Comma) (not (is_slash_at (Some (lexeme_of next)))) (is_same (lexeme_of comma) Comma is)
     (not_from_false (is_slash_at (Some (lexeme_of next))) (slash_is (lexeme_of next) ∙ word_no_slash (lexeme_of next) e))
 
-took_alone : (phrase : Phrase) (i j : Input) → Took phrase i j → Took (phrase · nothing) i j
-took_alone phrase i j took = record { tokens = took.tokens; rest = took.rest; at = took.at; says = (took.tokens, [], nothing_after took.tokens, took.says, refl) } where
-  nothing_after : (tokens : List Token) → tokens ≡ tokens ++ []
-  nothing_after tokens = grind (arith, common_steps)
-
-regrouped : (found : List CommonMember) (a b : CommonMember) (more : List CommonMember) → (found ++ a ∷ []) ++ b ∷ more ≡ found ++ a ∷ b ∷ more
-regrouped found a b more = append_assoc found (a ∷ []) (b ∷ more)
+pub comma_no_open : Apart (only Comma) (only Open)
+unfolding same_lexeme
+comma_no_open = apart (only Comma) (only Open) refl
 
 module _ (laws : ReadsExpressions) where
   abbrev pub member_parts : Piece (ℕ × Option (List BoundPair))
@@ -146,13 +142,6 @@ module _ (laws : ReadsExpressions) where
       (member_piece.complete a at tokens rest says (no_more rest stops.0))
       (ap (λ there. if there then (eat Comma >>= (λ _. members_from n (found ++ a ∷ []))) (input (at + length tokens) rest) else Some (found ++ a ∷ [], input (at + length tokens) rest)) (stops.1 (at + length tokens)))
 
-  moved : (at : ℕ) (before later : List Token) (comma : Token) → ((at + length before) + 1) + length later ≡ at + length (before ++ comma ∷ later)
-  moved at before later comma = grind (arith, common_steps)
-
-  pub comma_no_open : Apart (only Comma) (only Open)
-  unfolding same_lexeme
-  comma_no_open = apart (only Comma) (only Open) refl
-
   complete_next : (n : ℕ) (found : List CommonMember) (a b : CommonMember) (more : List CommonMember) (at : ℕ) (before later rest : List Token) (comma : Token) → form.member a at before → lexeme_of comma ≡ Comma
       → begins (only Word) (later ++ rest) ≡ true → Reads n (found ++ a ∷ []) (b ∷ more) ((at + length before) + 1) later rest → Reads (suc n) found (a ∷ b ∷ more) at (before ++ comma ∷ later) rest
   unfolding members_from sees
@@ -165,21 +154,7 @@ module _ (laws : ReadsExpressions) where
       let item = bind_is (member (input at (before ++ (comma ∷ (later ++ rest))))) (turn n found) a place answer (member_piece.complete a at before (comma ∷ (later ++ rest)) says stop) (on ∙ eaten ∙ onward) in
       let joined = subst (λ tokens. members_from (suc n) found (input at tokens) ≡ answer) (sym (append_assoc before (comma ∷ later) rest)) item in
       joined ∙ ap (λ all. Some (all, input (((at + length before) + 1) + length later) rest)) (regrouped found a b more)
-      ∙ ap (λ place. Some (found ++ a ∷ b ∷ more, input place rest)) (moved at before later comma)
-
-  few : (n : ℕ) (before later : List Token) (comma : Token) → length (before ++ comma ∷ later) ≤ suc n → length later ≤ n
-  few n before later comma e = grind (arith, common_steps)
-
-  none_left : (tokens before : List Token) → tokens ≡ before ++ [] → before ≡ tokens
-  none_left tokens before e = sym (e ∙ append-nil before)
-
-  too_few : (tokens : List Token) → 1 ≤ length tokens → length tokens ≤ 0 → ⊥
-  too_few tokens e f = grind (arith, common_steps)
-
-  grown : (tokens before after : List Token) → tokens ≡ before ++ after → 1 ≤ length before → 1 ≤ length tokens
-  grown tokens before after split e = subst (λ tokens. 1 ≤ length tokens) (sym split) (longer before after e) where
-    longer : (before after : List Token) → 1 ≤ length before → 1 ≤ length (before ++ after)
-    longer before after e = grind (arith, common_steps)
+      ∙ ap (λ place. Some (found ++ a ∷ b ∷ more, input place rest)) (after_comma at before later comma)
 
   -- a member begins with its name
   pub named_first : (a : CommonMember) (items : List CommonMember) (at : ℕ) (tokens rest : List Token) → (form.member a · after_commas form.member items) at tokens → begins (only Word) (tokens ++ rest) ≡ true
@@ -196,12 +171,9 @@ module _ (laws : ReadsExpressions) where
       let whole = split ∙ ap (λ after. before ++ after) (split_after ∙ ap (λ one. one ++ later) is_one) in
       let place = ap (λ one. (at + length before) + length one) is_one in
       let says_b = subst (λ place. (form.member b · after_commas form.member more) place later) place says_later in
-      let onward = complete_from more n (found ++ a ∷ []) b ((at + length before) + 1) later rest says_b (few n before later comma (subst (λ tokens. length tokens ≤ suc n) whole small)) stops in
+      let onward = complete_from more n (found ++ a ∷ []) b ((at + length before) + 1) later rest says_b (fewer_later n before later comma (subst (λ tokens. length tokens ≤ suc n) whole small)) stops in
       subst (λ tokens. Reads (suc n) found (a ∷ b ∷ more) at tokens rest) (sym whole)
       (complete_next n found a b more at before later rest comma says is_comma (named_first b more ((at + length before) + 1) later rest says_b) onward)
-
-  enough : (tokens rest : List Token) → length tokens ≤ length (tokens ++ rest)
-  enough tokens rest = grind (arith, common_steps)
 
   pub members_complete : (all : List CommonMember) (at : ℕ) (tokens rest : List Token) → commas form.member all at tokens → Stops rest
       → members (input at (tokens ++ rest)) ≡ Some (all, input (at + length tokens) rest)

@@ -1,6 +1,7 @@
 -- A whole number as a piece.
-use Rattle.std.proofs.Common.{◌≡◌, refl, sym, ◌∙◌, ap, subst, arith, ℕ, ◌≤◌, ℤ, pos, Bool, true, false, List, [], ◌∷◌, Option, Some, None, if◌then◌else◌}
+use Rattle.std.proofs.Common.{◌≡◌, refl, sym, ◌∙◌, ap, subst, ℕ, ◌≤◌, ℤ, pos, Bool, true, false, List, [], ◌∷◌, Option, Some, None, if◌then◌else◌}
 use Rattle.std.specs.Prelude.{nat_le}
+use Rattle.std.proofs.lemmas.Bool.{le-leb, leb-true}
 use denote.Hole.Carrier
 use Rattle.ftn_base.specs.Limits.{greatest_integer}
 use Rattle.ftn_tree.specs.declared.token.Token.{Token}
@@ -37,12 +38,6 @@ kind_by _ text value is = absurd (cc is)
 pub whole_kind : (here : Token) (value : ℤ) → number_here here ≡ Some value → lexeme_of here ≡ lexeme.Whole
 whole_kind here value is = kind_by (lexeme_of here) here.value value is
 
-below : (n : ℕ) → nat_le n greatest_integer ≡ true → n ≤ greatest_integer
-below n small = grind arith
-
-fits : (n : ℕ) → n ≤ greatest_integer → nat_le n greatest_integer ≡ true
-fits n small = grind arith
-
 abbrev value_if : Bool → ℕ → Option ℤ
 value_if small n = if small then Some (pos n) else None
 
@@ -50,12 +45,12 @@ digits_mean : (text : List ℕ) (value : ℤ) → whole_value text ≡ Some valu
 unfolding whole_value
 digits_mean text value is = by (nat_le (number_of text) greatest_integer) refl where
   by : (small : Bool) → nat_le (number_of text) greatest_integer ≡ small → (value ≡ pos (number_of text)) × (number_of text ≤ greatest_integer)
-  by true small = let same : pos (number_of text) ≡ value = cc (sym (ap (λ small. value_if small (number_of text)) small) ∙ is) in (sym same, below (number_of text) small)
+  by true small = let same : pos (number_of text) ≡ value = cc (sym (ap (λ small. value_if small (number_of text)) small) ∙ is) in (sym same, leb-true (number_of text) greatest_integer small)
   by false small = absurd (cc (sym (ap (λ small. value_if small (number_of text)) small) ∙ is))
 
 means : (text : List ℕ) (value : ℤ) → value ≡ pos (number_of text) → number_of text ≤ greatest_integer → whole_value text ≡ Some value
 unfolding whole_value
-means text value is small = ap (λ small. value_if small (number_of text)) (fits (number_of text) small) ∙ ap Some (sym is)
+means text value is small = ap (λ small. value_if small (number_of text)) (le-leb (number_of text) greatest_integer small) ∙ ap Some (sym is)
 
 whole_by : (here : Token) (kind : Lexeme) (value : ℤ) → lexeme_of here ≡ kind → number_by kind here.value ≡ Some value → IsNumber here value
 whole_by here lexeme.Whole value is means = let (value_is, small) = digits_mean here.value value means in record { digits = is; value_is = value_is; small = small }

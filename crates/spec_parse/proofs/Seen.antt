@@ -48,7 +48,7 @@ unseen_or_empty piece kind apart a at tokens rest says stops follows = by (piece
   by (inl e) = sees_is kind at (tokens ++ rest) ∙ stops_before piece.first (only kind) tokens rest apart e
   by (inr none) = subst (λ tokens. sees kind (input at (tokens ++ rest)) ≡ false) (sym none.0) (sees_is kind at rest ∙ follows)
 
-first_or : (a b : Bool) → (a || (false && b)) ≡ true → a ≡ true
+pub first_or : (a b : Bool) → (a || (false && b)) ≡ true → a ≡ true
 first_or true b e = refl
 first_or false b e = e
 
@@ -99,7 +99,7 @@ hides text other at [] rest apart e = absurd (cc e)
 hides text other at (here ∷ tokens) rest apart e = other_word here text other apart e
 
 -- what isn't a word isn't that word
-no_word_at : (text : List ℕ) (here : Token) (found : Bool) → is_word text here ≡ found → only Word (lexeme_of here) ≡ false → is_word text here ≡ false
+pub no_word_at : (text : List ℕ) (here : Token) (found : Bool) → is_word text here ≡ found → only Word (lexeme_of here) ≡ false → is_word text here ≡ false
 no_word_at text here true is e = absurd (cc (sym (word_kind text here is) ∙ e))
 no_word_at text here false is e = is
 

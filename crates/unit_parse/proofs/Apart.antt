@@ -3,6 +3,7 @@ use Rattle.std.proofs.Common.{◌≡◌, refl, sym, ◌∙◌, ap, subst, ℕ, �
 use Rattle.std.specs.List.{list_any}
 use Rattle.std.proofs.lemmas.Slice.Eq.{bytes_eq-Decides}
 use Rattle.std.proofs.lemmas.Bool.{or_from, or_left, or_right}
+use Rattle.std.proofs.Math.Bool.{or-false}
 use Rattle.ftn_tree.specs.declared.token.Token.{Token}
 use Rattle.ftn_tree.specs.declared.token.TokenKind.{TokenKind}
 use Rattle.ftn_tree.specs.declared.token.TokenKind.TheVariants as kinds
@@ -419,13 +420,9 @@ specification_row _ = λ at tokens says. absurd says
 abbrev Start : Phrase → Type 0
 Start phrase = (at : ℕ) (tokens : List Token) → phrase at tokens → starts tokens ≡ true
 
-or_no : (one : Bool) → (one || false) ≡ true → one ≡ true
-or_no true e = refl
-or_no false e = e
-
 starts_more : (before after : List Token) → starts before ≡ true → starts (before ++ after) ≡ true
 starts_more [] after e = absurd (cc e)
-starts_more (here ∷ []) after e = or_left (begins_with here first_words) (first_colon after) (or_no (begins_with here first_words) e)
+starts_more (here ∷ []) after e = or_left (begins_with here first_words) (first_colon after) (sym (or-false (begins_with here first_words)) ∙ e)
 starts_more (here ∷ next ∷ rest) after e = e
 
 start_word : (text : List ℕ) → is_one_of text first_words ≡ true → Start (word text)

@@ -1,14 +1,15 @@
 -- There is one answer: statements nest as one list of units, or have one fault.
-use Rattle.std.proofs.Common.{◌≡◌, ◌⊎◌, ℕ, ◌+◌, Bool, List, [], ◌∷◌, ◌++◌, length, Option, Some, None, Result, Ok, Err, inl, inr, refl, sym, ◌∙◌, ap, subst, append_assoc, append-nil, zero-add}
+use Rattle.std.proofs.Common.{◌≡◌, ◌⊎◌, ℕ, ◌+◌, Bool, List, [], ◌∷◌, ◌++◌, length, Result, Ok, Err, inl, inr, refl, sym, ◌∙◌, ap, subst, zero-add}
+use Rattle.std.proofs.lemmas.Option.{same_Some}
 use Rattle.ftn_base.specs.declared.fault.FaultKind.{FaultKind}
 use Rattle.ftn_base.specs.declared.fault.FaultKind.TheVariants.{Misplaced}
 use Rattle.ftn_tree.specs.declared.mark.Mark.{Mark}
 use Rattle.ftn_tree.specs.declared.unit.Unit.{Unit as UnitTree}
-use Rattle.ftn_tree.specs.Nesting.{Row, spelled, held, Nested, Begins}
+use Rattle.ftn_tree.specs.Nesting.{Nested, Begins}
 use Rattle.ftn_tree.specs.NestFaults.{Path, titles, innermost, kind_in, IsRefused, IsUnfinished, IsNestFault}
 use Rattle.unit_parse.specs.declared.level.Level.{Level}
 use Rattle.unit_parse.specs.declared.frames.Frame.{Frame}
-use Rattle.unit_parse.specs.Taking.{State, Outcome, Answer, start, take, go_on, take_all, finish, finished, finish_all, nest, Takes, Finishes}
+use Rattle.unit_parse.specs.Taking.{State, Outcome, Answer, start, take, go_on, take_all, finish, finish_all, nest, Takes, Finishes}
 use Rattle.unit_parse.specs.declared.fault.NestFault.{NestFault}
 use Rattle.unit_parse.specs.declared.fault.NestFault.TheVariants as fault
 use Rattle.unit_parse.specs.Answers.{HasTaken, TakesNext, EndsWith}
@@ -17,7 +18,7 @@ use Rattle.unit_parse.proofs.Reached.{reached, reached_none}
 use Rattle.unit_parse.proofs.Closed.{begins}
 use Rattle.unit_parse.proofs.Unended.{openings}
 use Rattle.unit_parse.proofs.LeftOpen.{leaves_open, one_path}
-use Rattle.unit_parse.proofs.Answers.{Units, units_err, units_ok, units_no_err, ok_no_err, taken, goes_through, takes_none, kind_is, unfinished_at, nested_only, nested_ok, nest_fault}
+use Rattle.unit_parse.proofs.Answers.{Units, units_err, units_ok, units_no_err, taken, goes_through, takes_none, kind_is, unfinished_at, nested_only, nested_ok, nest_fault}
 
 module _ (same : ℕ → ℕ → Bool) where
   -- ---- fronts, for readers that take statements one by one
@@ -106,16 +107,13 @@ module _ (same : ℕ → ℕ → Bool) where
       ∙ ap (λ (path : Path). kind_in (titles path) is.refused) (sym (one_path same is.path is.front s is.leaves was)) ∙ sym is.kind_is)
       ∙ ap (λ (k : ℕ). Err (kind, k)) (sym is.place)
 
-  some_is : (one other : ℕ) → Some one ≡ Some other → one ≡ other
-  some_is one other e = cc e
-
   unfinished_told : (marks : List Mark) (kind : FaultKind) (at : ℕ) → IsUnfinished same marks kind at → (here : Level) (frames : List Frame) → HasTaken same marks (state here frames)
       → nest same marks ≡ Err (kind, at)
   unfinished_told marks kind at is here [] was = absurd (is.unfinished here.units (finished_ok marks (state here []) here.units was refl))
   unfinished_told marks kind at is here (frame ∷ frames) was =
       finish_is marks (state here (frame ∷ frames)) was
       ∙ ap (λ (k : ℕ). Err (Misplaced, k))
-      (some_is frame.opening at (ap (λ (path : Path). innermost path) (sym (one_path same is.path marks (state here (frame ∷ frames)) is.leaves was)) ∙ is.place))
+      (same_Some frame.opening at (ap (λ (path : Path). innermost path) (sym (one_path same is.path marks (state here (frame ∷ frames)) is.leaves was)) ∙ is.place))
       ∙ ap (λ (k : FaultKind). Err (k, at)) (sym is.kind_is)
 
   pub fault_told : (marks : List Mark) (kind : FaultKind) (at : ℕ) → IsNestFault same marks kind at → nest same marks ≡ Err (kind, at)

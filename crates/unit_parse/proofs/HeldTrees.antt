@@ -1,5 +1,7 @@
 -- What a row doesn't hold: a unit no arms, a construct no units, SELECT CASE no statement before its arms, and a file units alone.
-use Rattle.std.proofs.Common.{◌≡◌, ℕ, ◌+◌, Bool, true, false, not, ◌||◌, if◌then◌else◌, List, [], ◌∷◌, Option, refl, sym, ◌∙◌, ap, true≢false}
+use Rattle.std.proofs.Common.{◌≡◌, ℕ, ◌+◌, Bool, true, false, not, if◌then◌else◌, List, [], ◌∷◌, Option, refl, sym, ◌∙◌, ap, true≢false}
+use Rattle.std.proofs.lemmas.Bool.{not-false}
+use Rattle.std.proofs.Math.Bool.{or-false}
 use Rattle.ftn_tree.specs.declared.parts.EndWord.{EndWord}
 use Rattle.ftn_tree.specs.declared.parts.EndWord.TheVariants as word
 use Rattle.ftn_tree.specs.declared.mark.Content.{Content}
@@ -78,16 +80,12 @@ in_construct content.Case = true
 in_construct content.Default = true
 in_construct _ = false
 
-first_of : (a : Bool) → (a || false) ≡ true → a ≡ true
-first_of true e = refl
-first_of false e = e
-
 construct_mark : (m : Mark) (p : Content) → in_construct p ≡ true → belongs p m ≡ true → opens_whole m ≡ false
 construct_mark (mark.Open what) content.Executable h e = ap not e
-construct_mark (mark.Open what) content.ElseIf h e = ap not (first_of (is_construct what.word) e)
+construct_mark (mark.Open what) content.ElseIf h e = ap not (sym (or-false (is_construct what.word)) ∙ e)
 construct_mark (mark.Open what) content.Else h e = absurd (true≢false (sym e))
 construct_mark (mark.Open what) content.AnyCase h e = absurd (true≢false (sym e))
-construct_mark (mark.Open what) content.Case h e = ap not (first_of (is_construct what.word) e)
+construct_mark (mark.Open what) content.Case h e = ap not (sym (or-false (is_construct what.word)) ∙ e)
 construct_mark (mark.Open what) content.Default h e = absurd (true≢false (sym e))
 construct_mark (mark.Open what) p h e = absurd (true≢false (sym h))
 construct_mark m p h e = refl
@@ -138,10 +136,6 @@ unit_mark m p h e = absurd (true≢false (sym h))
 pub file_heads : (row : Row) → in_order (sections_in (region_of [])) (heads row) ≡ true → Free opens_none (heads row)
 file_heads row order = free opens_none only_unit unit_mark (heads row) (sections_in region.File) refl order
 
-not_false : (b : Bool) → not b ≡ false → b ≡ true
-not_false true e = refl
-not_false false e = absurd (true≢false e)
-
 unit_word : (which : EndWord) → is_unit which ≡ true → is_construct which ≡ false
 unit_word word.If e = absurd (true≢false (sym e))
 unit_word word.Do e = absurd (true≢false (sym e))
@@ -149,7 +143,7 @@ unit_word word.Select e = absurd (true≢false (sym e))
 unit_word which e = refl
 
 pub no_construct : (what : Title) → opens_none (mark.Open what) ≡ false → is_construct what.word ≡ false
-no_construct what e = unit_word what.word (not_false (is_unit what.word) e)
+no_construct what e = unit_word what.word (not-false (is_unit what.word) e)
 
 module _ (same : ℕ → ℕ → Bool) (path : List Title) where
   pub stands_none : (m : Mark) → may_stand same path m ≡ true → opens_none m ≡ false → ⊥

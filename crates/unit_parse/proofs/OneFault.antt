@@ -1,6 +1,7 @@
 -- The tokens of a file have one first fault, and no tree then.
-use Rattle.std.proofs.Common.{◌≡◌, ◌⊎◌, ℕ, Bool, true, List, [], ◌∷◌, ◌++◌, length, slice_get, Some, inl, inr, refl, sym, ◌∙◌, ap, subst, append_assoc, append-nil, true≢false}
+use Rattle.std.proofs.Common.{◌≡◌, ◌⊎◌, ℕ, Bool, true, List, [], ◌∷◌, ◌++◌, length, slice_get, inl, inr, refl, sym, ◌∙◌, ap, subst, append_assoc, append-nil, true≢false}
 use Rattle.std.proofs.lemmas.List.{map-append}
+use Rattle.std.proofs.lemmas.Option.{same_Some}
 use Rattle.ftn_base.specs.declared.fault.FaultKind.{FaultKind}
 use Rattle.ftn_base.specs.declared.fault.FaultKind.TheVariants as kinds
 use Rattle.ftn_base.specs.declared.place.Range.{Range}
@@ -35,9 +36,6 @@ compare (r ∷ before) (s ∷ other) here there after behind e = on (compare bef
     on (inl is) = inl (ap (λ (r : Range). r ∷ before) same ∙ ap (λ (l : List Range). s ∷ l) is.0, is.1)
     on (inr (inl is)) = inr (inl (is.0, ap (λ (s : Range). s ∷ other) (sym same) ∙ ap (λ (l : List Range). r ∷ l) is.1))
     on (inr (inr is)) = inr (inr (is.0, ap (λ (r : Range). r ∷ before) same ∙ ap (λ (l : List Range). s ∷ l) is.1))
-
-some_is : (one other : Statement) → Some one ≡ Some other → one ≡ other
-some_is one other e = cc e
 
 -- ---- what a fault forbids
 
@@ -125,7 +123,7 @@ module _ (tokens : Tokens) where
       let statements = same_read tokens tokens.statements f.statements g.statements f.read g.read in
       let unfinished = subst (λ (l : List Statement). IsUnfinished (same_name tokens) (marks_of l) kind f.at) statements f.unfinished in
       let same = one_fault (same_name tokens) (marks_of g.statements) kind other f.at g.at (inr unfinished) (inr g.unfinished) in
-      let opening = some_is f.opening g.opening
+      let opening = same_Some f.opening g.opening
       (sym f.opened ∙ ap (λ (l : List Statement). slice_get l f.at) statements ∙ ap (λ (k : ℕ). slice_get g.statements k) same.1 ∙ g.opened) in
       (same.0, f.place ∙ ap (λ (s : Statement). first_bytes tokens s.tokens) opening ∙ sym g.place)
 

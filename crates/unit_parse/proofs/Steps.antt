@@ -1,6 +1,7 @@
 -- What one statement does to the stack.
 use Rattle.std.proofs.Common.{◌≡◌, ℕ, Bool, true, false, not, ◌&&◌, nat_le, if◌then◌else◌, List, ◌∷◌, drop, Option, Some, None, option_map, Ok, Err, refl, sym, ◌∙◌, ap, true≢false, suc, arith}
 use Rattle.std.proofs.lemmas.Bool.Decides.{nat_tests}
+use Rattle.std.proofs.lemmas.Option.{none-some}
 use Rattle.ftn_base.specs.Limits.{most_constructs}
 use Rattle.ftn_tree.specs.declared.mark.Mark.{Mark}
 use Rattle.ftn_tree.specs.declared.mark.Mark.TheVariants as mark
@@ -19,9 +20,6 @@ use Rattle.unit_parse.proofs.Levels.{left, or_stay, moved}
 
 abbrev pub state : Level → List Frame → State
 state here frames = record { here = here; frames = frames }
-
-pub none_some : {A : Type 0} (a : A) → None ≡ Some a → ⊥
-none_some a e = cc e
 
 -- ---- a statement in its order has a section
 
@@ -48,7 +46,7 @@ module _ (same : ℕ → ℕ → Bool) where
   with_stage : (here : Level) (frames : List Frame) (n : ℕ) (m : Mark) (f : Option ℕ) (k : ℕ) → f ≡ Some k
       → placed same (state here frames) n m f
       ≡ (if allows same (state here frames) m then Ok (add (state (record here { stage = or_stay here.stage f }) frames) n m) else Err (refused_kind (state here frames) m))
-  with_stage here frames n m None k e = absurd (none_some k e)
+  with_stage here frames n m None k e = absurd (none-some k e)
   with_stage here frames n m (Some j) k e = refl
 
   place_ok : (here : Level) (frames : List Frame) (n : ℕ) (m : Mark) (k : ℕ) → follow (left here) here.stage m ≡ Some k → allows same (state here frames) m ≡ true

@@ -4,9 +4,9 @@ use Rattle.std.specs.Prelude.{◌||◌}
 use Rattle.std.specs.List.{list_any}
 use Rattle.std.specs.Map.{keys_of}
 use Rattle.std.proofs.lemmas.List.Folds.{list_any-append}
+use Rattle.std.proofs.Math.Bool.{or-false}
 use Rattle.indexmap.specs.IndexMap.{insert_entry}
 use Rattle.indexmap.specs.IndexSet.{insert_key}
-use Rattle.use_assoc.proofs.Once.{or_false}
 
 module _ {K V : Type 0} (eq : K → K → Bool) where
   -- a key that is there stays, and another goes last
@@ -28,7 +28,7 @@ module _ {K : Type 0} (eq : K → K → Bool) where
   twice_is_once ks k same = by (list_any (eq k) ks) refl
     where
       found : list_any (eq k) ks ≡ false → list_any (eq k) (ks ++ k ∷ []) ≡ true
-      found none = list_any-append (eq k) ks (k ∷ []) ∙ ap (λ b. b || (eq k k || false)) none ∙ or_false (eq k k) ∙ same
+      found none = list_any-append (eq k) ks (k ∷ []) ∙ ap (λ b. b || (eq k k || false)) none ∙ or-false (eq k k) ∙ same
 
       by : (b : Bool) → list_any (eq k) ks ≡ b → insert_key eq (cond b ks (ks ++ k ∷ [])) k ≡ cond b ks (ks ++ k ∷ [])
       by true e = ap (λ b. cond b ks (ks ++ k ∷ [])) e

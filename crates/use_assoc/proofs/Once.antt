@@ -1,5 +1,5 @@
 -- Each of a list once: what a set of keys comes to.
-use Rattle.std.proofs.Common.{◌≡◌, ℕ, nat_eq, Bool, true, false, cond, List, [], ◌∷◌, ◌++◌, filter, refl, sym, ap, true≢false, ◌∙◌, append_assoc, ◌<◌, arith, map}
+use Rattle.std.proofs.Common.{◌≡◌, ℕ, nat_eq, Bool, true, false, cond, List, [], ◌∷◌, ◌++◌, filter, refl, sym, ap, ◌∙◌, append_assoc, ◌<◌, arith, map}
 use Rattle.std.specs.Prelude.{◌&&◌, ◌||◌, not}
 use Rattle.std.specs.List.{list_any, All, AllByRecursion as ByRecursion}
 use Rattle.std.specs.Str.{bytes_eq}
@@ -9,27 +9,16 @@ use Rattle.std.proofs.lemmas.List.Folds.{list_any-append}
 use Rattle.std.proofs.lemmas.Slice.Eq.{bytes_eq-Decides}
 use Rattle.std.proofs.lemmas.Bool.Decides.{nat_tests}
 use Rattle.std.proofs.lemmas.Bool.{eqb-true, and_parts}
+use Rattle.std.proofs.Math.Bool.{and-true, or-false, or_assoc}
 use Rattle.indexmap.specs.IndexSet.{insert_all, insert_key}
 use Rattle.ftn_base.specs.Exports.{Pair, is_among}
 use Rattle.ftn_base.specs.Accessible.{is_same_pair, modules_of, once}
 use Rattle.ftn_base.specs.declared.uses.UseList.{UseList}
 
-pub or_false : (b : Bool) → (b || false) ≡ b
-or_false true = refl
-or_false false = refl
-
-pub or_group : (a b c : Bool) → (a || (b || c)) ≡ ((a || b) || c)
-or_group true b c = refl
-or_group false b c = refl
-
 not_both : (a b : Bool) → not (a || b) ≡ (not b && not a)
 not_both true true = refl
 not_both true false = refl
-not_both false b = sym (and_true (not b))
-  where
-    and_true : (x : Bool) → (x && true) ≡ x
-    and_true true = refl
-    and_true false = refl
+not_both false b = sym (and-true (not b))
 
 -- a filter of a filter tests both
 both_filters : {A : Type 0} (p q r : A → Bool) → ((x : A) → p x ≡ (q x && r x)) → (xs : List A) → filter p xs ≡ filter r (filter q xs)
@@ -54,7 +43,7 @@ module _ {A : Type 0} (same : A → A → Bool) (equal : (x y : A) → same x y 
   new_to done y = not (list_any (same y) done)
 
   new_after : (done : List A) (x : A) → (y : A) → new_to (done ++ x ∷ []) y ≡ (not (same y x) && new_to done y)
-  new_after done x y = ap not (list_any-append (same y) done (x ∷ []) ∙ ap (λ b. list_any (same y) done || b) (or_false (same y x))) ∙ not_both (list_any (same y) done) (same y x)
+  new_after done x y = ap not (list_any-append (same y) done (x ∷ []) ∙ ap (λ b. list_any (same y) done || b) (or-false (same y x))) ∙ not_both (list_any (same y) done) (same y x)
 
   new_same : (done : List A) (x : A) → list_any (same x) done ≡ true → (y : A) → new_to done y ≡ (not (same y x) && new_to done y)
   new_same done x there y = by (same y x) refl
@@ -84,9 +73,9 @@ module _ {A : Type 0} (same : A → A → Bool) (equal : (x y : A) → same x y 
   once_is xs = inserted_is [] xs ∙ filter_all (new_to []) (λ x. refl) (once same xs)
 
   among_inserted : (done xs : List A) (q : A) → list_any (same q) (insert_all same done xs) ≡ (list_any (same q) done || list_any (same q) xs)
-  among_inserted done [] q = sym (or_false (list_any (same q) done))
+  among_inserted done [] q = sym (or-false (list_any (same q) done))
   among_inserted done (x ∷ xs) q = among_inserted (insert_key same done x) xs q ∙ ap (λ b. b || list_any (same q) xs) (one (list_any (same x) done) refl)
-      ∙ sym (or_group (list_any (same q) done) (same q x) (list_any (same q) xs))
+      ∙ or_assoc (list_any (same q) done) (same q x) (list_any (same q) xs)
     where
       one : (b : Bool) → list_any (same x) done ≡ b → list_any (same q) (insert_key same done x) ≡ (list_any (same q) done || same q x)
       one true e = ap (λ c. list_any (same q) (cond c done (done ++ x ∷ []))) e ∙ there (same q x) refl
@@ -95,8 +84,8 @@ module _ {A : Type 0} (same : A → A → Bool) (equal : (x y : A) → same x y 
           there true f =
               let all : list_any (same q) done ≡ true = ap (λ z. list_any (same z) done) (equal q x f) ∙ e in
               all ∙ sym (ap (λ d. d || true) all)
-          there false f = sym (or_false (list_any (same q) done))
-      one false e = ap (λ c. list_any (same q) (cond c done (done ++ x ∷ []))) e ∙ list_any-append (same q) done (x ∷ []) ∙ ap (λ b. list_any (same q) done || b) (or_false (same q x))
+          there false f = sym (or-false (list_any (same q) done))
+      one false e = ap (λ c. list_any (same q) (cond c done (done ++ x ∷ []))) e ∙ list_any-append (same q) done (x ∷ []) ∙ ap (λ b. list_any (same q) done || b) (or-false (same q x))
 
   once_all : (P : A → Type 0) (xs : List A) → ByRecursion P xs → All P (once same xs)
   once_all P [] all = All-nil P

@@ -1,6 +1,6 @@
-use Rattle.std.proofs.Common.{◌≡◌, ◌+◌, ◌-◌, ◌<◌, ◌∙◌, ℕ, List, Bool, Result, Ok, Err, All, take, drop, length, get_or, sym, subst, ap, arith, take_all}
+use Rattle.std.proofs.Common.{◌≡◌, ◌+◌, ◌-◌, ◌<◌, ◌∙◌, ℕ, List, Bool, Result, Ok, Err, All, take, drop, length, get_or, sym, subst, ap, arith}
 use Rattle.std.specs.Prelude.{IfOk, Decides}
-use Rattle.std.proofs.lemmas.List.{length-drop, get_or_default}
+use Rattle.std.proofs.lemmas.List.{get_or_default, take_rest}
 use Rattle.std.proofs.lemmas.List.Elements.{All-drop}
 use Rattle.ftn_base.specs.declared.entity.Tie.{Tie}
 use Rattle.ftn_base.specs.Storage.{IsContradicted, tie_links}
@@ -18,9 +18,6 @@ joined-requires-clause-agree c =
     subst (λ (ties : List Tie). IsContradicted (tie_links ties) → ⊥) (sym c.ties_up_to.ensures)
     (agree_among (take (length t.members.items + c.args.count) t.ties.items) t.ties.items (take_among (length t.members.items + c.args.count) t.ties.items) c.requires.agree)
 
-rest_whole : (list : List ℕ) (n : ℕ) → take (length list - n) (drop n list) ≡ drop n list
-rest_whole list n = let len : length (drop n list) ≡ length list - n = length-drop n list in take_all (length list - n) (drop n list) (omega (arith, len))
-
 pub has_twins-requires : goal.has_twins-requires
 has_twins-requires c =
     let t = c.args.things.now in
@@ -31,7 +28,7 @@ has_twins-requires c =
     let at : get_or found.class.items k d ≡ get_or found.class.items k 0 = get_or_default found.class.items k d 0 lt in
     let is : get_or found.class.items k 0 < length found.size.items = sound.ends.known k (omega (arith, lt, all)) in omega (arith, at, is))) in
     let size : length found.size.items ≡ c.len.result = omega (arith, c.len.ensures, found.size.ok.0) in
-    subst (λ (list : List ℕ). All (λ number. number < c.len.result) list) (sym (rest_whole c.deref-2.result.now t.objects))
+    subst (λ (list : List ℕ). All (λ number. number < c.len.result) list) (sym (take_rest c.deref-2.result.now t.objects))
     (subst (λ (list : List ℕ). All (λ number. number < c.len.result) (drop t.objects list)) (sym c.deref-2.ensures.value)
     (subst (λ (n : ℕ). All (λ number. number < n) (drop t.objects found.class.items)) size (All-drop (λ number. number < length found.size.items) t.objects found.class.items known)))
 
