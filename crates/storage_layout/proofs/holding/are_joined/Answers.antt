@@ -42,7 +42,7 @@ returns c =
     let kept = c.requires.kept in
     let found = c.in_ok-found.found in
     let list : take (length c.deref-2.result.now - t.objects) (drop t.objects c.deref-2.result.now) ≡ drop (length (sizes_in t)) found.class.items =
-    rest_whole c.deref-2.result.now t.objects ∙ ap (drop t.objects) c.deref-2.ensures.value ∙ ap (λ (n : ℕ). drop n found.class.items) (sym kept.count) in
+    take_rest c.deref-2.result.now t.objects ∙ ap (drop t.objects) c.deref-2.ensures.value ∙ ap (λ (n : ℕ). drop n found.class.items) (sym kept.count) in
     let sound : classes.IsSound t.sizes.items (tie_links (take (length t.members.items + c.args.count) t.ties.items)) found.class.items found.offset.items found.size.items =
     subst (λ (sizes : List ℕ). classes.IsSound sizes (tie_links (take (length t.members.items + c.args.count) t.ties.items)) found.class.items found.offset.items found.size.items) c.deref.ensures.value
     (subst (λ (ties : List Tie). classes.IsSound c.deref.result.now (tie_links ties) found.class.items found.offset.items found.size.items) c.ties_up_to.ensures c.in_ok-found.ensures) in
