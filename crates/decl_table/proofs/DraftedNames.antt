@@ -33,7 +33,7 @@ is_found test f (x ∷ all) = by (is_found test f all) (test x) where
   by rest true = refl
   by rest false = rest
 
-kind_is : (has_result referenced : Bool) (said : List Saying) → kind_said has_result referenced said ≡ kind_heard has_result referenced (heard_of said)
+pub kind_is : (has_result referenced : Bool) (said : List Saying) → kind_said has_result referenced said ≡ kind_heard has_result referenced (heard_of said)
 kind_is has_result referenced said =
     ap₂ (λ generic label.
     if list_any dummy said then Some kinds.Dummy
@@ -51,7 +51,7 @@ token_or : (found : Option Saying) (first : ℕ) → unwrap_or (option_map (λ (
 token_or None first = refl
 token_or (Some s) first = refl
 
-place_is : (kind : EntityKind) (first : ℕ) (said : List Saying) → place_heard kind first (heard_of said) ≡ own_place kind first said
+pub place_is : (kind : EntityKind) (first : ℕ) (said : List Saying) → place_heard kind first (heard_of said) ≡ own_place kind first said
 place_is kinds.Program first said = refl
 place_is kinds.Module first said = refl
 place_is kinds.BlockData first said = refl

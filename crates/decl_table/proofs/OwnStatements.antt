@@ -25,10 +25,10 @@ number_of files are i e there =
     ∙ position_is a e b (before_it (λ file. statements_in file files) a e b (subst (Ordered (λ file. statements_in file files)) split (ordered_units files are)))
     ∙ ap Some long
 
-same_fields : (e x : Extent) → same_extent e x ≡ true → (e.file ≡ x.file) × (e.opening ≡ x.opening)
+pub same_fields : (e x : Extent) → same_extent e x ≡ true → (e.file ≡ x.file) × (e.opening ≡ x.opening)
 same_fields e x is = (grind (arith, nat_tests), grind (arith, nat_tests))
 
-same_number : (files : List FileTree) (e x : Extent) → same_extent e x ≡ true → scope_number files e ≡ scope_number files x
+pub same_number : (files : List FileTree) (e x : Extent) → same_extent e x ≡ true → scope_number files e ≡ scope_number files x
 same_number files e x is =
     let (file, opening) = same_fields e x is in
     ap (λ f. position (λ (other : Extent). (f == other.file) && (e.opening == other.opening)) (scoping files)) file
@@ -40,7 +40,7 @@ equal_numbers j i same = grind (arith, nat_tests)
 other_numbers : (j i : ℕ) → (j ≡ i → ⊥) → (j == i) ≡ false
 other_numbers j i apart = grind (arith, nat_tests)
 
-same_self : (e : Extent) → same_extent e e ≡ true
+pub same_self : (e : Extent) → same_extent e e ≡ true
 same_self e = grind (arith, nat_tests)
 
 -- an extent of that number is another one exactly where its number is another

@@ -20,19 +20,19 @@ use Rattle.decl_table.proofs.Chains.{Split, none_of, last_split, chain_is, host_
 use Rattle.decl_table.proofs.Arounds.{ordered_units}
 
 -- without a host, or with one that comes before
-abbrev HasHost : List FileTree → List Extent → Extent → Type 0
+abbrev pub HasHost : List FileTree → List Extent → Extent → Type 0
 HasHost files pre e =
     (h : Extent) × (j : ℕ) × (front : List Extent) × (host_number files e ≡ Some j) × (slice_get pre j ≡ Some h)
     × (chain files h ≡ front ++ h ∷ []) × (chain files e ≡ chain files h ++ e ∷ [])
 
-abbrev HostCase : List FileTree → List Extent → Extent → Type 0
+abbrev pub HostCase : List FileTree → List Extent → Extent → Type 0
 HostCase files pre e = ((host_number files e ≡ None) × (chain files e ≡ e ∷ [])) ⊎ HasHost files pre e
 
 at_place : (a : List Extent) (h : Extent) (b : List Extent) → slice_get (a ++ h ∷ b) (length a) ≡ Some h
 at_place [] h b = refl
 at_place (x ∷ a) h b = at_place a h b
 
-host_case : (files : List FileTree) → AreTrees files → (pre : List Extent) (e : Extent) (post : List Extent) → scoping files ≡ pre ++ e ∷ post → HostCase files pre e
+pub host_case : (files : List FileTree) → AreTrees files → (pre : List Extent) (e : Extent) (post : List Extent) → scoping files ≡ pre ++ e ∷ post → HostCase files pre e
 host_case files are pre e post split = by (last_or None (filter (covers e.file e.opening) pre)) refl where
   count : ℕ → ℕ
   count file = statements_in file files

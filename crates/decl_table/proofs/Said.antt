@@ -99,7 +99,7 @@ host_there files x h found = by (last_split (encloses x.file x.opening) None h (
   by (inl (is, none)) = absurd (cc is)
   by (inr (a, b, is, passes, none)) = (length a, ap (λ es. slice_get es (length a)) is ∙ at a b)
 
-host_test : (files : List FileTree) → AreTrees files → (i : ℕ) (e x : Extent) → slice_get (scoping files) i ≡ Some e → is_number i (host_number files x) ≡ is_some_extent e (host_of files x)
+pub host_test : (files : List FileTree) → AreTrees files → (i : ℕ) (e x : Extent) → slice_get (scoping files) i ≡ Some e → is_number i (host_number files x) ≡ is_some_extent e (host_of files x)
 host_test files are i e x here = by (host_there files x) (host_of files x) refl where
   by : ((h : Extent) → host_of files x ≡ Some h → (j : ℕ) × (slice_get (scoping files) j ≡ Some h)) → (found : Option Extent) → host_of files x ≡ found
       → is_number i (option_and_then (scope_number files) (host_of files x)) ≡ is_some_extent e (host_of files x)

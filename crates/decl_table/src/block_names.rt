@@ -12,7 +12,7 @@ use std::alloc::Global;
 
 /// A token of a file.
 #[derive(Clone, Copy)]
-pub(crate) struct TokenAt {
+pub struct TokenAt {
     /// The number of the file.
     pub file: u32,
     /// The number of the token.
@@ -82,7 +82,7 @@ fn push_unit_names(
 }
 
 /// Adds the names of blocks in program units.
-pub(crate) fn push_names(
+pub fn push_names(
     alloc: Global,
     files: &[FileTree],
     units: &[Extent],

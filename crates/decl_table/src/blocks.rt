@@ -55,7 +55,7 @@ fn push_firsts<'a>(
 }
 
 /// Adds the named blocks of these program units of a project.
-pub(crate) fn push_blocks(
+pub fn push_blocks(
     alloc: Global,
     files: &[FileTree],
     units: &[Extent],
@@ -110,7 +110,7 @@ fn first_blank(files: &[FileTree], unit: Extent) -> Option<u32>
 }
 
 /// Adds blank common, where it stands in one of these program units.
-pub(crate) fn push_blank(
+pub fn push_blank(
     files: &[FileTree],
     units: &[Extent],
     found: &mut Vec<Draft>,

@@ -21,7 +21,7 @@ use std::alloc::Global;
 
 /// A scoping unit whose names are declared.
 #[derive(Clone, Copy)]
-pub(crate) struct Owner {
+pub struct Owner {
     /// The number of its file.
     pub file: u32,
     /// Its number.
@@ -31,7 +31,7 @@ pub(crate) struct Owner {
 }
 
 /// Whether RESULT stands in its opening.
-fn has_result(files: &[FileTree], unit: Extent) -> bool
+pub fn has_result(files: &[FileTree], unit: Extent) -> bool
     ensures { result ≡ spec.has_result_at (layer_at files.now unit.file unit.opening) }
 {
     match form_at(files, unit.file, unit.opening) {
@@ -40,7 +40,7 @@ fn has_result(files: &[FileTree], unit: Extent) -> bool
     }
 }
 
-fn has_type(kind: EntityKind) -> bool
+pub fn has_type(kind: EntityKind) -> bool
     ensures { result ≡ spec.has_type kind }
 {
     matches!(
@@ -50,7 +50,7 @@ fn has_type(kind: EntityKind) -> bool
 }
 
 /// The first token of a name: generic names and construct names begin where they are opened.
-fn own_place(kind: EntityKind, first: u32, heard: &Heard) -> u32
+pub fn own_place(kind: EntityKind, first: u32, heard: &Heard) -> u32
     ensures { result ≡ steps.place_heard kind first heard.now }
 {
     match kind {
@@ -110,7 +110,7 @@ fn push_names<'a>(
 }
 
 /// Adds what the names of a scoping unit declare, in the order in which they are said.
-pub(crate) fn push_declared<'a>(
+pub fn push_declared<'a>(
     alloc: Global,
     files: &'a [FileTree],
     unit: Extent,

@@ -53,7 +53,7 @@ fn entity_of(alloc: Global, files: &[FileTree], draft: &Draft) -> Result<Entity,
     })
 }
 
-fn entities_from(
+pub fn entities_from(
     alloc: Global,
     files: &[FileTree],
     drafts: &[Draft],
@@ -89,7 +89,7 @@ fn entities<'a>(
 
 /// The declared entities of a project: program units, procedures, names that specifications declare and common blocks, by file and first
 /// token, blank common last. Names that only their first letter declares, and intrinsic functions, are not among them.
-pub(crate) fn entity_table(
+pub fn entity_table(
     alloc: Global,
     files: &[FileTree],
     scoping: &Scoping,

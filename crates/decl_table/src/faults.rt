@@ -23,7 +23,7 @@ fn place_span(files: &[FileTree], place: Option<Place>) -> Option<Span>
     Some(span_of(files, place.file, place.token))
 }
 
-fn fault_of(files: &[FileTree], found: Option<Finding>) -> Option<Fault>
+pub fn fault_of(files: &[FileTree], found: Option<Finding>) -> Option<Fault>
     ensures { result ≡ option_map (spec.fault_of files.now) found }
 {
     let Finding { kind, at, other } = found?;

@@ -66,7 +66,7 @@ impl Finding {
 }
 
 /// The one that comes before the other, and of those alike the first. So the first fault of two lists is found from that of each.
-pub(crate) fn earlier(first: Option<Finding>, second: Option<Finding>) -> Option<Finding>
+pub fn earlier(first: Option<Finding>, second: Option<Finding>) -> Option<Finding>
     ensures value { result ≡ earlier first second }
     ensures joined { (xs ys : _) → first ≡ first_finding declaration_rank xs → second ≡ first_finding declaration_rank ys → result ≡ first_finding declaration_rank (xs ++ ys) }
 {

@@ -9,7 +9,7 @@ use ftn_base::{Range, Span};
 use ftn_tree::{Extent, FileTree, Form};
 
 /// What a statement of a file says, where the file has one of that number.
-pub(crate) fn form_at(files: &[FileTree], file: u32, statement: u32) -> Option<&Form>
+pub fn form_at(files: &[FileTree], file: u32, statement: u32) -> Option<&Form>
     ensures { option_copied result ≡ spec.form_at files.now file statement }
 {
     match files.get(file as usize) {
@@ -22,7 +22,7 @@ pub(crate) fn form_at(files: &[FileTree], file: u32, statement: u32) -> Option<&
 }
 
 /// Whether it is an interface block.
-pub(crate) fn is_interface(files: &[FileTree], extent: Extent) -> bool
+pub fn is_interface(files: &[FileTree], extent: Extent) -> bool
     ensures { result ≡ spec.is_interface files.now extent }
 {
     match form_at(files, extent.file, extent.opening) {
@@ -32,7 +32,7 @@ pub(crate) fn is_interface(files: &[FileTree], extent: Extent) -> bool
 }
 
 /// The folded name at a token of a file.
-pub(crate) fn name_at(files: &[FileTree], file: u32, token: u32) -> &[u8]
+pub fn name_at(files: &[FileTree], file: u32, token: u32) -> &[u8]
     ensures { result.now ≡ scopes.name_at files.now file token }
 {
     match files.get(file as usize) {
@@ -42,7 +42,7 @@ pub(crate) fn name_at(files: &[FileTree], file: u32, token: u32) -> &[u8]
 }
 
 /// Where a token of a file stands.
-pub(crate) fn span_of(files: &[FileTree], file: u32, token: u32) -> Span
+pub fn span_of(files: &[FileTree], file: u32, token: u32) -> Span
     ensures { result ≡ scopes.span_of files.now file token }
 {
     let range = match files.get(file as usize) {
@@ -56,7 +56,7 @@ pub(crate) fn span_of(files: &[FileTree], file: u32, token: u32) -> Span
 }
 
 /// The first token of a statement.
-pub(crate) fn first_token_at(files: &[FileTree], file: u32, statement: u32) -> u32
+pub fn first_token_at(files: &[FileTree], file: u32, statement: u32) -> u32
     ensures { result ≡ scopes.first_token_at files.now file statement }
 {
     match files.get(file as usize) {
@@ -69,7 +69,7 @@ pub(crate) fn first_token_at(files: &[FileTree], file: u32, statement: u32) -> u
 }
 
 /// The name that an opening gives.
-pub(crate) fn name_token(files: &[FileTree], extent: Extent) -> Option<u32>
+pub fn name_token(files: &[FileTree], extent: Extent) -> Option<u32>
     ensures { result ≡ scopes.name_token files.now extent }
 {
     match form_at(files, extent.file, extent.opening) {

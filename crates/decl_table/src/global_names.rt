@@ -28,7 +28,7 @@ fn push_outer(unit: Extent, host: Option<u32>, units: &mut Vec<Extent>) -> Resul
 }
 
 /// The program units: the scoping units without a host.
-pub(crate) fn program_units(
+pub fn program_units(
     alloc: Global,
     files: &[FileTree],
     scoping: &Scoping,
@@ -114,7 +114,7 @@ fn block_names<'a>(
 }
 
 /// The first global name that is declared twice.
-pub(crate) fn global_fault(
+pub fn global_fault(
     alloc: Global,
     files: &[FileTree],
     scoping: &Scoping,

@@ -15,7 +15,7 @@ use std::alloc::Global;
 
 /// What some sayings of one name say (Fortran 90, 5, 8.1.4, 11.3, 12.3.2, 12.5.2).
 #[derive(Clone, Copy)]
-pub(crate) struct Heard {
+pub struct Heard {
     /// That it is a dummy argument (12.5.2).
     pub dummy: bool,
     /// That it is a function's result (12.5.2.2).
@@ -103,7 +103,7 @@ impl Heard {
     }
 
     /// Whether a type declaration gives it a type, and nothing else declares it (12.3.2.2, 12.4).
-    fn is_typed_alone(&self) -> bool
+    pub fn is_typed_alone(&self) -> bool
         ensures { result ≡ steps.is_typed_alone self.now }
     {
         self.typed && !self.shaped
@@ -140,10 +140,10 @@ impl Heard {
 }
 
 /// What is said of each name.
-pub(crate) type Sayings<'a> = IndexMap<&'a [u8], Heard>;
+pub type Sayings<'a> = IndexMap<&'a [u8], Heard>;
 
 /// What is said of that name.
-pub(crate) fn heard_of(names: &Sayings<'_>, name: &[u8]) -> Heard
+pub fn heard_of(names: &Sayings<'_>, name: &[u8]) -> Heard
     ensures { result ≡ steps.heard_in names.now name.now }
 {
     match names.get(name) {
@@ -160,7 +160,7 @@ fn put<'a>(names: &mut Sayings<'a>, name: &'a [u8], heard: Heard) -> Result<(), 
 }
 
 /// What these sayings say of each name.
-pub(crate) fn hear<'a>(alloc: Global, said: &[Saying<'a>]) -> Result<Sayings<'a>, NoMemory>
+pub fn hear<'a>(alloc: Global, said: &[Saying<'a>]) -> Result<Sayings<'a>, NoMemory>
     ensures { IfOk result (λ names. (name : List ℕ) → steps.heard_in names name ≡ steps.heard_of (filter (same_name name) said.now)) }
 {
     let mut names: Sayings<'a> = IndexMap::new(alloc);

@@ -18,7 +18,7 @@ use ftn_tree::{FileTree, Mention};
 use std::alloc::Global;
 
 /// Adds what the names of each scoping unit declare, where for each that is said in it, and those names occur in its own statements.
-pub(crate) fn push_names<'a>(
+pub fn push_names<'a>(
     alloc: Global,
     files: &'a [FileTree],
     scoping: &Scoping,

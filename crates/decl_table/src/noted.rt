@@ -13,7 +13,7 @@ use std::alloc::Global;
 
 /// Where a name occurs.
 #[derive(Clone, Copy)]
-pub(crate) struct Noted {
+pub struct Noted {
     /// The first token, or 0 where it doesn't occur. The names of a unit that opens or ends, of a block, of a module and in an item of
     /// USE don't count.
     pub first: u32,
@@ -22,7 +22,7 @@ pub(crate) struct Noted {
 }
 
 /// Whether a name in that place may be one of the scoping unit's own.
-fn may_be_own(role: Role) -> bool
+pub fn may_be_own(role: Role) -> bool
     ensures { result ≡ spec.may_be_own role }
 {
     !matches!(
@@ -59,10 +59,10 @@ impl Noted {
 }
 
 /// Where each name occurs.
-pub(crate) type Occurring<'a> = IndexMap<&'a [u8], Noted>;
+pub type Occurring<'a> = IndexMap<&'a [u8], Noted>;
 
 /// Where that name occurs.
-pub(crate) fn noted_of(names: &Occurring<'_>, name: &[u8]) -> Noted
+pub fn noted_of(names: &Occurring<'_>, name: &[u8]) -> Noted
     ensures { result ≡ steps.noted_in names.now name.now }
 {
     match names.get(name) {
@@ -79,7 +79,7 @@ fn put<'a>(names: &mut Occurring<'a>, name: &'a [u8], noted: Noted) -> Result<()
 }
 
 /// Where each name occurs among these mentions of a file.
-pub(crate) fn note<'a>(
+pub fn note<'a>(
     alloc: Global,
     files: &'a [FileTree],
     file: u32,

@@ -62,7 +62,8 @@ fn or_first(found: Option<u32>) -> u32
     }
 }
 
-fn count_in(files: &[FileTree], file: u32) -> usize
+/// How many statements a file has.
+pub fn count_in(files: &[FileTree], file: u32) -> usize
     ensures { result ≡ steps.count_in file files.now }
 {
     match files.get(file as usize) {
@@ -111,7 +112,7 @@ fn push_file(
 
 /// Where the names of a project occur, in the order of files and tokens: the token of each, the scoping unit in which it stands, the
 /// folded name, and where in its statement it stands.
-pub(crate) fn occurrence_table(
+pub fn occurrence_table(
     alloc: Global,
     files: &[FileTree],
     scoping: &Scoping,

@@ -9,7 +9,7 @@ use ftn_tree::Extent;
 use std::alloc::Global;
 
 /// Whether it is that number.
-pub(crate) fn is_number(number: u32, found: Option<u32>) -> bool
+pub fn is_number(number: u32, found: Option<u32>) -> bool
     ensures { result ≡ spec.is_number number found }
 {
     match found {
@@ -35,7 +35,7 @@ fn push_own(
 }
 
 /// The statements from its opening to its ending that have its number.
-pub(crate) fn own_statements(
+pub fn own_statements(
     alloc: Global,
     rows: &[Row],
     unit: Extent,

@@ -10,7 +10,7 @@ use std::marker::Model;
 
 /// For each statement of a file a number, or nothing. Contracts see the list of these.
 #[derive(Drop)]
-pub(crate) struct Row {
+pub struct Row {
     of: Vec<Option<u32>>,
 }
 
@@ -63,7 +63,7 @@ fn paint_slice(row: &mut [Option<u32>], opening: u32, ending: u32, number: u32)
 }
 
 /// The number of a statement of a file, where it has one.
-pub(crate) fn number_at(rows: &[Row], file: u32, statement: u32) -> Option<u32>
+pub fn number_at(rows: &[Row], file: u32, statement: u32) -> Option<u32>
     ensures { result ≡ spec.number_at rows.now file statement }
 {
     match rows.get(file as usize) {
@@ -94,12 +94,12 @@ fn paint(rows: &mut [Row], extent: Extent, number: u32)
 /// For each statement the number of the last extent that covers it, and for each extent the number of the last one before it that
 /// covers its opening.
 #[derive(Drop)]
-pub(crate) struct Painted {
-    pub(crate) rows: Vec<Row>,
-    pub(crate) around: Vec<Option<u32>>,
+pub struct Painted {
+    pub rows: Vec<Row>,
+    pub around: Vec<Option<u32>>,
 }
 
-pub(crate) fn paint_all(
+pub fn paint_all(
     alloc: Global,
     files: &[FileTree],
     extents: &[Extent],

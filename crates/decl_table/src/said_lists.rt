@@ -18,7 +18,7 @@ use ftn_tree::{Extent, FileTree, Mention};
 use std::alloc::Global;
 
 /// All that is said in each.
-pub(crate) fn said_lists(
+pub fn said_lists(
     alloc: Global,
     files: &[FileTree],
     scoping: &Scoping,
@@ -37,7 +37,7 @@ pub(crate) fn said_lists(
 }
 
 /// Each with the name that it is said of.
-pub(crate) fn saying_lists<'a>(
+pub fn saying_lists<'a>(
     alloc: Global,
     files: &'a [FileTree],
     scoping: &Scoping,
@@ -79,7 +79,7 @@ fn own_list(
 }
 
 /// The names in the own statements of each.
-pub(crate) fn own_lists(
+pub fn own_lists(
     alloc: Global,
     files: &[FileTree],
     scoping: &Scoping,

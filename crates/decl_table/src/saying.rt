@@ -27,7 +27,7 @@ impl<'a> Model for Saying<'a> {
 
 impl<'a> Saying<'a> {
     /// Bounds (Fortran 90, 5.1.2.4, 5.2.5, 5.5.2).
-    pub(crate) fn is_bounded(&self) -> bool
+    pub fn is_bounded(&self) -> bool
         ensures { result ≡ spec.bounded self.now }
     {
         self.said.says(Role::Bounded)
@@ -36,21 +36,21 @@ impl<'a> Saying<'a> {
     }
 
     /// A value that is an initial value by its declaration (5.1).
-    pub(crate) fn is_initial(&self) -> bool
+    pub fn is_initial(&self) -> bool
         ensures { result ≡ spec.initial self.now }
     {
         self.said.says(Role::Valued) && !self.said.says(Role::Parameter)
     }
 
     /// SAVE by its name; a block that is saved is no name of the scoping unit (5.2.4).
-    pub(crate) fn is_saved(&self) -> bool
+    pub fn is_saved(&self) -> bool
         ensures { result ≡ spec.saved self.now }
     {
         self.said.says(Role::Saved) && !self.said.says(Role::Slash)
     }
 
     /// INTENT (5.1.2.3, 5.2.1).
-    pub(crate) fn has_intent(&self) -> bool
+    pub fn has_intent(&self) -> bool
         ensures { result ≡ spec.intent self.now }
     {
         self.said.says(Role::IntentIn)
@@ -59,14 +59,14 @@ impl<'a> Saying<'a> {
     }
 
     /// A procedure inside, a generic name or a construct name.
-    pub(crate) fn is_inside(&self) -> bool
+    pub fn is_inside(&self) -> bool
         ensures { result ≡ spec.inside self.now }
     {
         self.said.says(Role::Inner) || self.said.says(Role::Generic) || self.said.says(Role::Label)
     }
 
     /// A member of a common block (5.5.2).
-    pub(crate) fn is_member(&self) -> bool
+    pub fn is_member(&self) -> bool
         ensures { result ≡ spec.member self.now }
     {
         self.said.says(Role::Member) || self.said.says(Role::NamedMember)
@@ -74,14 +74,14 @@ impl<'a> Saying<'a> {
 
     /// Whether it alone makes a second declaration: by DIMENSION twice, or EXTERNAL and INTRINSIC, among the attributes of a declaration
     /// (5.1.2).
-    pub(crate) fn is_twice_alone(&self) -> bool
+    pub fn is_twice_alone(&self) -> bool
         ensures { result ≡ is_twice_itself self.now }
     {
         self.said.says(Role::DimensionTwice)
             || (self.said.says(Role::External) && self.said.says(Role::Intrinsic))
     }
     /// A procedure outside of the scoping unit (12.3.2).
-    pub(crate) fn is_outside(&self) -> bool
+    pub fn is_outside(&self) -> bool
         ensures { result ≡ spec.outside self.now }
     {
         self.said.says(Role::External)
@@ -90,7 +90,7 @@ impl<'a> Saying<'a> {
     }
 
     /// What declares the name.
-    pub(crate) fn is_declaring(&self) -> bool
+    pub fn is_declaring(&self) -> bool
         ensures { result ≡ spec.declares self.now }
     {
         self.said.says(Role::Dummy)

@@ -22,7 +22,7 @@ use ftn_tree::{Extent, FileTree, Mention, Role, ScopeKind};
 use std::alloc::Global;
 
 /// Adds the names in a statement of a file.
-pub(crate) fn push_statement(
+pub fn push_statement(
     alloc: Global,
     files: &[FileTree],
     file: u32,
@@ -130,7 +130,7 @@ fn push_said(
 }
 
 /// All that is said in a scoping unit, in the order of tokens.
-pub(crate) fn all_said(
+pub fn all_said(
     alloc: Global,
     files: &[FileTree],
     scoping: &Scoping,
@@ -151,7 +151,7 @@ pub(crate) fn all_said(
 }
 
 /// Each with the name that it is said of.
-pub(crate) fn sayings<'a>(
+pub fn sayings<'a>(
     alloc: Global,
     files: &'a [FileTree],
     file: u32,
@@ -170,7 +170,7 @@ pub(crate) fn sayings<'a>(
 }
 
 /// The first fault that the names of a scoping unit give.
-pub(crate) fn names_fault(
+pub fn names_fault(
     alloc: Global,
     files: &[FileTree],
     scoping: &Scoping,

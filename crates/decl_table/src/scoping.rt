@@ -18,11 +18,11 @@ use std::alloc::Global;
 /// The scoping units of a project in the order of their openings, whether each is an interface body, the number of each one's host,
 /// and of each statement the number of the scoping unit that it stands in.
 #[derive(Drop)]
-pub(crate) struct Scoping {
-    pub(crate) units: Vec<Extent>,
-    pub(crate) bodies: Vec<bool>,
-    pub(crate) hosts: Vec<Option<u32>>,
-    pub(crate) rows: Vec<Row>,
+pub struct Scoping {
+    pub units: Vec<Extent>,
+    pub bodies: Vec<bool>,
+    pub hosts: Vec<Option<u32>>,
+    pub rows: Vec<Row>,
 }
 
 /// Whether the extent of that number is an interface block.
@@ -79,7 +79,7 @@ fn units_among(
 }
 
 /// The scoping units of a project.
-pub(crate) fn scoping_units(alloc: Global, files: &[FileTree]) -> Result<Scoping, NoMemory>
+pub fn scoping_units(alloc: Global, files: &[FileTree]) -> Result<Scoping, NoMemory>
     requires { AreTrees files.now }
     ensures { IfOk result (IsScoping files.now) }
 {
@@ -97,7 +97,7 @@ pub(crate) fn scoping_units(alloc: Global, files: &[FileTree]) -> Result<Scoping
 }
 
 /// What a scoping unit is.
-pub(crate) fn kind_of(files: &[FileTree], unit: Extent, body: bool) -> ScopeKind
+pub fn kind_of(files: &[FileTree], unit: Extent, body: bool) -> ScopeKind
     requires { body ≡ spec.is_body files.now unit }
     ensures { result ≡ scopes.scope_kind files.now unit }
 {
@@ -117,7 +117,7 @@ fn procedure_kind(body: bool, kind: ScopeKind) -> ScopeKind
 }
 
 /// The name of a scoping unit. A BLOCK DATA without one has `%blockdata`.
-pub(crate) fn scope_name(files: &[FileTree], unit: Extent) -> &[u8]
+pub fn scope_name(files: &[FileTree], unit: Extent) -> &[u8]
     ensures { result.now ≡ scopes.scope_name files.now unit }
 {
     match name_token(files, unit) {
@@ -127,7 +127,7 @@ pub(crate) fn scope_name(files: &[FileTree], unit: Extent) -> &[u8]
 }
 
 /// The scoping unit of that number, whether it is an interface body, and the number of its host.
-pub(crate) fn unit_at(
+pub fn unit_at(
     files: &[FileTree],
     scoping: &Scoping,
     number: u32,

@@ -8,10 +8,10 @@ use ftn_base::NoMemory;
 use indexmap::IndexSet;
 
 /// Names, each once.
-pub(crate) type Seen<'a> = IndexSet<&'a [u8]>;
+pub type Seen<'a> = IndexSet<&'a [u8]>;
 
 /// Puts a name, and says whether it is the first time.
-pub(crate) fn is_first<'a>(seen: &mut Seen<'a>, name: &'a [u8]) -> Result<bool, NoMemory>
+pub fn is_first<'a>(seen: &mut Seen<'a>, name: &'a [u8]) -> Result<bool, NoMemory>
     ensures first { IfOk result (λ first. first ≡ not (has_come seen.old name.now)) }
     ensures put { OnOk result ((other : _) → has_come seen.new other ≡ (bytes_eq name.now other || has_come seen.old other)) }
 {

@@ -8,7 +8,7 @@ use std::alloc::Global;
 
 /// The name that these bytes are, which are a name in lower case.
 #[tactic(auto, using(crate::proofs::SpelledNames::spelled_is))]
-pub(crate) fn name_of(alloc: Global, bytes: &[u8]) -> Result<Name, NoMemory>
+pub fn name_of(alloc: Global, bytes: &[u8]) -> Result<Name, NoMemory>
     requires { IsSpelled bytes.now }
     ensures { IfOk result (λ name. name ≡ bytes.now) }
 {

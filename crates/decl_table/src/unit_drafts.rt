@@ -79,7 +79,7 @@ fn draft_unit(
 }
 
 /// Adds the program units and procedures of a project.
-pub(crate) fn push_units(
+pub fn push_units(
     files: &[FileTree],
     scoping: &Scoping,
     said: &[Vec<Saying<'_>>],

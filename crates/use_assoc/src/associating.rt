@@ -63,7 +63,9 @@ fn add_modules(
     Ok(())
 }
 
-fn all_given(
+/// What the USE statements make accessible, where `exports` has what each module exports, by the modules' numbers. An item that isn't
+/// exported gives none.
+pub fn pairs_of(
     alloc: Global,
     exports: &[Exports],
     lists: &[UseList],
@@ -90,7 +92,7 @@ pub fn association(
     ensures pairs { IfOk result (λ found. found.pairs.items ≡ spec.accessible_of exports.now lists.now) }
     ensures first { IfOk result (λ found. found.not_public ≡ spec.first_not_public exports.now lists.now) }
 {
-    let pairs = all_given(alloc, exports, lists)?;
+    let pairs = pairs_of(alloc, exports, lists)?;
     Ok(Accessible {
         pairs,
         not_public: first_not_public(exports, lists),

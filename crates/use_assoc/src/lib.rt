@@ -18,7 +18,7 @@ mod table;
 mod uses;
 
 pub use access::exports;
-pub use associating::{Accessible, association};
+pub use associating::{Accessible, association, pairs_of};
 pub use fault::UseFault;
 pub use ftn_base::{Access, UseItem, UseList};
 pub use offering::Exports;

@@ -1,19 +1,17 @@
-use Rattle.std.proofs.Common.{◌≡◌, ◌++◌, ◌∙◌, ap, map}
+use Rattle.std.proofs.Common.{◌≡◌, ◌∙◌, ap, map}
 use Rattle.std.proofs.lemmas.Result.{IfOk-weaker}
 use Rattle.ftn_tree.specs.DeclaredEntities as spec
-use Rattle.decl_table.specs.steps.Blanks.{blanks_of}
 use Rattle.decl_table.specs.steps.Drafts.{ahead, drafted_of}
 use Rattle.decl_table.specs.steps.Ordering.{in_order}
-use Rattle.decl_table.proofs.AllDrafts.{all_in_order}
+use Rattle.decl_table.proofs.AllDrafts.{order_stands}
 use Rattle.decl_table.proofs.drafts.drafts.Goals as goal
 
 pub returns : goal.returns
 returns c =
     let files = c.args.files.now in
-    let blank = c.in_ok-push_blank.ensures
-    ∙ ap (λ es. map (drafted_of files) c.push_blocks.new.found.items ++ spec.draft_blank files (blanks_of files es)) (c.deref-2.ensures.value ∙ c.in_ok-units.ensures) in
-    IfOk-weaker c.in_order.result (λ made. made.items ≡ in_order ahead c.deref-3.result.now)
+    let found = c.deref.result.now in
+    IfOk-weaker c.in_order.result (λ made. made.items ≡ in_order ahead found)
     (λ made. map (drafted_of files) made.items ≡ spec.in_order (spec.drafts files))
-    (λ made is. all_in_order files c.new-found.result.items c.push_units.new.found.items c.push_names.new.found.items c.push_blocks.new.found.items c.push_blank.new.found.items
-    made.items c.new-found.ensures.items c.in_ok-push_units.ensures c.in_ok-push_names.ensures c.in_ok-push_blocks.ensures blank (is ∙ ap (in_order ahead) c.deref-3.ensures.value))
+    (λ made is. ap (map (drafted_of files)) is ∙ order_stands files found
+    ∙ ap spec.in_order (ap (map (drafted_of files)) c.deref.ensures.value ∙ c.in_ok-found.ensures))
     c.in_order.ensures

@@ -4,7 +4,7 @@ use Rattle.indexmap.specs.IndexMap.{keys}
 use Rattle.use_assoc.specs.steps.Groups.{found_lists}
 use Rattle.use_assoc.proofs.Modules.{all_is}
 use Rattle.use_assoc.proofs.Once.{modules_within}
-use Rattle.use_assoc.proofs.associating.all_given.Goals as goal
+use Rattle.use_assoc.proofs.associating.pairs_of.Goals as goal
 
 pub add_modules-requires : goal.add_modules-requires
 add_modules-requires c = record {
