@@ -9,7 +9,7 @@ use Rattle.ftn_tree.specs.declared.unit.Block.TheVariants.{Plain, Nest}
 use Rattle.ftn_tree.specs.Marks.{is_construct, begins_arm}
 use Rattle.ftn_tree.specs.Nesting.{Row, none, stands, nest, spelled, Held, held, with_statement, with_nest, unit, arm, arms_of}
 use Rattle.ftn_tree.specs.Extents.{extents_in}
-use Rattle.decl_table.proofs.UnitExtents.{own, rolled_extents}
+use Rattle.ftn_tree.proofs.Surrounding.{own, rolled_extents}
 
 -- each of these ends before that one does, or begins after it
 abbrev pub Beside : Extent → List Extent → Type 0

@@ -3,26 +3,16 @@ use Rattle.std.proofs.Common.{◌≡◌, ℕ, ◌++◌, List, [], ◌∷◌, ap,
 use Rattle.std.specs.List.{flat_map}
 use Rattle.std.proofs.lemmas.List.Folds.{flat_map-map}
 use Rattle.ftn_tree.specs.declared.table.Extent.{Extent}
-use Rattle.ftn_tree.specs.declared.unit.Unit.{Unit as UnitTree, out-Unit, roll-Unit}
-use Rattle.ftn_tree.specs.declared.unit.Block.{Block}
-use Rattle.ftn_tree.specs.declared.unit.Unit.TheFolds.{fold-roll-Unit, fold_out-Unit}
+use Rattle.ftn_tree.specs.declared.unit.Unit.{Unit as UnitTree, out-Unit}
+use Rattle.ftn_tree.specs.declared.unit.Unit.TheFolds.{fold_out-Unit}
 use Rattle.ftn_tree.specs.Extents.{extent_step, extents_in}
-
--- the extent of the unit itself
-abbrev pub own : ℕ → ℕ → ℕ → Extent
-own file opening ending = record { file = file; opening = opening; ending = ending }
+use Rattle.ftn_tree.proofs.Surrounding.{own}
 
 pub unit_extents : (file : ℕ) (u : UnitTree) →
     extents_in file u ≡ own file (out-Unit u).opening (out-Unit u).ending ∷ flat_map (extents_in file) (out-Unit u).inner
 unit_extents file u =
     fold_out-Unit (List Extent) (extent_step file) u
     ∙ ap (λ more. own file (out-Unit u).opening (out-Unit u).ending ∷ more) (flat_map-map (λ (inner : List Extent). inner) (extents_in file) (out-Unit u).inner)
-
-pub rolled_extents : (file opening ending : ℕ) (inner : List UnitTree) (body : List Block) →
-    extents_in file (roll-Unit (record { opening = opening; ending = ending; inner = inner; body = body })) ≡ own file opening ending ∷ flat_map (extents_in file) inner
-rolled_extents file opening ending inner body =
-    fold-roll-Unit (List Extent) (extent_step file) (record { opening = opening; ending = ending; inner = inner; body = body })
-    ∙ ap (λ more. own file opening ending ∷ more) (flat_map-map (λ (inner : List Extent). inner) (extents_in file) inner)
 
 pub pushed : (file : ℕ) (u : UnitTree) (old one all : List Extent) (inner : List UnitTree) →
     one ≡ old ++ own file (out-Unit u).opening (out-Unit u).ending ∷ [] → inner ≡ (out-Unit u).inner → all ≡ one ++ flat_map (extents_in file) inner →
