@@ -99,11 +99,7 @@ pub struct Painted {
     pub around: Vec<Option<u32>>,
 }
 
-pub fn paint_all(
-    alloc: Global,
-    files: &[FileTree],
-    extents: &[Extent],
-) -> Result<Painted, NoMemory>
+pub fn paint_all(alloc: Global, files: &[FileTree], extents: &[Extent]) -> Result<Painted, NoMemory>
     requires { length extents.now < 2 ^ 32 }
     ensures rows { IfOk result (λ made. made.rows.items ≡ spec.rows_of files.now extents.now) }
     ensures around { IfOk result (λ made. made.around.items ≡ spec.around_of files.now extents.now) }

@@ -127,11 +127,7 @@ pub fn scope_name(files: &[FileTree], unit: Extent) -> &[u8]
 }
 
 /// The scoping unit of that number, whether it is an interface body, and the number of its host.
-pub fn unit_at(
-    files: &[FileTree],
-    scoping: &Scoping,
-    number: u32,
-) -> (Extent, bool, Option<u32>)
+pub fn unit_at(files: &[FileTree], scoping: &Scoping, number: u32) -> (Extent, bool, Option<u32>)
     requires known { IsScoping files.now scoping.now }
     requires within { number < length (spec.scoping files.now) }
     ensures unit { slice_get (spec.scoping files.now) number ≡ Some result.0 }
