@@ -8,20 +8,29 @@ That is proved over a store that gives back what was put; a real folder is
 trusted to be one.
 
 Usage:
+  ftn_tool check
+      Tell the first fault of the project, or how many files and program units
+      it has.
   ftn_tool apply rename FILE LINE COLUMN NEW
       Give the entity whose name stands at that line and column of the file
       the name NEW, everywhere. Lines and columns count from 1, columns in bytes.
   ftn_tool -h | --help
   ftn_tool --version
+Anywhere after the first word of a command may stand, once,
+  --edition=2003
+      Names have at most 63 letters, in place of 31, and a statement has at most
+      255 continuation lines, in place of 39.
 
 The project is every regular file of the folder whose name ends in .f90 and has
 only bytes from 33 to 126. What else ends in .f90, links among it, is left out;
-standard error tells each. The files are read, and the first fault is told. This
-version changes projects of one file with one main program of integer scalars,
-assignments and `print *`; any other project without a fault is
-`fault NotBuilt -`.
+standard error tells each. The files are read, then their declarations, and the
+first fault is told. What names denote, types, constants and storage are not
+looked at yet. This version changes projects of one file with one main program
+of integer scalars, assignments and `print *`; for any other project without a
+fault `apply` answers `fault NotBuilt -`.
 
 Output, one line, and exit codes:
+  0  ok F files, U units       no fault was found
   0  applying 1 files          the rename was made
   1  refused CONDITION PLACE   a condition fails; no file changed
   2  bad word K                the K-th word is bad or missing

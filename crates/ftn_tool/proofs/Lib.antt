@@ -1,9 +1,12 @@
 pub mod Numbers
 pub mod Positions
+pub mod Editions
 pub mod Sizes
 pub mod ProjectFiles
+pub mod TextSizes
+pub mod Trees
 pub mod FirstFault
-pub mod Due
+pub mod FormVerdicts
 pub mod Writing
 pub mod NewProject
 pub mod Applying

@@ -6,6 +6,7 @@ use Rattle.std.specs.FinMap.{slice_cmp-IsAntisymmetric, nat_cmp-IsAntisymmetric}
 use Rattle.std.specs.FinMap.Entries.{below_all, by_order, is_sorted}
 use Rattle.std.specs.Cmp.{tied_itself}
 use Rattle.std.proofs.lemmas.Cmp.{nat_list_cmp_total}
+use Rattle.std.proofs.lemmas.Option.{none-some}
 use Rattle.std.specs.declared.cmp.Ordering.{Ordering}
 use Rattle.std.specs.declared.cmp.Ordering.TheVariants.{Less, Equal, Greater}
 use Rattle.ftn_base.specs.Files.{File, IsInOrder, by_name, is_source, project, with_file}
@@ -58,14 +59,11 @@ project_put name text (file ∷ files) ordered source =
 some_file : (file name_file : File) → ◌≡◌ {A = Option File} (Some file) (Some name_file) → file ≡ name_file
 some_file file name_file e = cc
 
-no_file : (file : File) → ◌≡◌ {A = Option File} None (Some file) → ⊥
-no_file file e = cc
-
 -- the one file of a list
 only_file : (files : List File) (file : File) → sole files ≡ Some file → files ≡ file ∷ []
-only_file [] file e = absurd (no_file file e)
+only_file [] file e = absurd (none-some file e)
 only_file (one ∷ []) file e = ap (λ (f : File). f ∷ []) (some_file one file e)
-only_file (one ∷ next ∷ files) file e = absurd (no_file file e)
+only_file (one ∷ next ∷ files) file e = absurd (none-some file e)
 
 no_head : (others : List File) (file : File) → ◌≡◌ {A = List File} [] (file ∷ others) → ⊥
 no_head others file e = cc

@@ -65,16 +65,13 @@ strict_rises [] strict = refl
 strict_rises (name ∷ []) strict = refl
 strict_rises (name ∷ next ∷ names) strict = and_from _ _ (ap is_lt strict.0.0) (strict_rises (next ∷ names) strict.1)
 
-equal : (xs ys : List ℕ) → pointwise nat_eq xs ys ≡ true → xs ≡ ys
-equal xs ys e = (bytes_eq-Decides xs ys).0 e
-
 -- names that are sorted, and whose repeats are then dropped
 module _ (names sorted now : List (List ℕ)) (is : now ≡ dedup (pointwise nat_eq) sorted) where
   pub dropped_rise : IsSorted by_name sorted → IsTrue (rising now)
   dropped_rise ordered = ap rising is ∙ strict_rises _ (IsStrictlySortedBy-dedup nat_list_cmp_total texts_ties sorted ordered)
 
   pub dropped_keep : IsPermutation names sorted → (name : List ℕ) → Contains names name → Contains now name
-  dropped_keep moved name here = subst (λ (xs : List (List ℕ)). Contains xs name) (sym is) (Contains-dedup nat_list_eq_equiv equal sorted name (Contains-permutation names sorted name moved here))
+  dropped_keep moved name here = subst (λ (xs : List (List ℕ)). Contains xs name) (sym is) (Contains-dedup nat_list_eq_equiv (λ xs ys. (bytes_eq-Decides xs ys).0) sorted name (Contains-permutation names sorted name moved here))
 
   pub dropped_had : IsPermutation names sorted → (name : List ℕ) → Contains now name → Contains names name
   dropped_had moved name here = Contains-permutation sorted names name (IsPermutation-sym names sorted moved) (Contains-from_dedup (pointwise nat_eq) sorted name (subst (λ (xs : List (List ℕ)). Contains xs name) is here))

@@ -5,6 +5,7 @@ use Rattle.std.specs.List.{All}
 use Rattle.std.proofs.lemmas.Bool.{le-ltb, lt-ltb, ltb-true, ltb-false}
 use Rattle.std.proofs.lemmas.List.{length-map, length-take, take_all}
 use Rattle.std.proofs.lemmas.List.Elements.{All-nil, All-cons}
+use Rattle.std.proofs.lemmas.Option.{none-some}
 use Rattle.ftn_base.specs.Files.{File}
 use Rattle.ftn_base.specs.Limits.{most_file_bytes, most_files, most_project_bytes}
 use Rattle.ftn_base.specs.declared.limits.Limit.{Limit}
@@ -30,17 +31,21 @@ measured before name text files = by_tests (nat_lt most_file_bytes (length text)
 
 -- ---- how many files there are
 
-some_limit : (which : Limit) → ◌≡◌ {A = Option Limit} (Some which) None → ⊥
-some_limit which e = cc
-
 pub few_files : (files : List File) → length files ≤ most_files → limit_of files ≡ past_bytes 0 files
 few_files files few = ap (λ (many : Bool). cond many (Some limits.Files) (past_bytes 0 files)) (le-ltb most_files (length files) few)
 
 pub many_files : (files : List File) → most_files < length files → limit_of files ≡ Some limits.Files
 many_files files many = ap (λ (many : Bool). cond many (Some limits.Files) (past_bytes 0 files)) (lt-ltb most_files (length files) many)
 
+counted_few : (many : Bool) (rest : Option Limit) → cond many (Some limits.Files) rest ≡ None → many ≡ false
+counted_few true rest e = absurd (none-some limits.Files (sym e))
+counted_few false rest e = refl
+
+pub none_few : (files : List File) → limit_of files ≡ None → length files ≤ most_files
+none_few files none = ltb-false most_files (length files) (counted_few (nat_lt most_files (length files)) (past_bytes 0 files) none)
+
 by_count : (many : Bool) (rest : Option Limit) → cond many (Some limits.Files) rest ≡ None → rest ≡ None
-by_count true rest e = absurd (some_limit limits.Files e)
+by_count true rest e = absurd (none-some limits.Files (sym e))
 by_count false rest e = e
 
 pub none_past : (files : List File) → limit_of files ≡ None → past_bytes 0 files ≡ None
@@ -84,13 +89,13 @@ same_limit files =
     ap (λ (n : ℕ). cond (nat_lt most_files n) (Some limits.Files) (past_bytes 0 (map front_of files))) (length-map files front_of)
     ∙ ap (λ (rest : Option Limit). cond (nat_lt most_files (length files)) (Some limits.Files) rest) (same_past 0 files)
 
-passed_none : (large more : Bool) (rest : Option Limit) → cond large (Some limits.File) (cond more (Some limits.Project) rest) ≡ None → (large ≡ false) × (rest ≡ None)
-passed_none true more rest e = absurd (some_limit limits.File e)
-passed_none false true rest e = absurd (some_limit limits.Project e)
-passed_none false false rest e = (refl, e)
+passed_none : (large more : Bool) (rest : Option Limit) → cond large (Some limits.File) (cond more (Some limits.Project) rest) ≡ None → (large ≡ false) × (more ≡ false) × (rest ≡ None)
+passed_none true more rest e = absurd (none-some limits.File (sym e))
+passed_none false true rest e = absurd (none-some limits.Project (sym e))
+passed_none false false rest e = (refl, refl, e)
 
-not_past : (before : ℕ) (file : File) (files : List File) → past_bytes before (file ∷ files) ≡ None
-    → (nat_lt most_file_bytes (length file.1) ≡ false) × (past_bytes (before + length file.1) files ≡ None)
+pub not_past : (before : ℕ) (file : File) (files : List File) → past_bytes before (file ∷ files) ≡ None
+    → (nat_lt most_file_bytes (length file.1) ≡ false) × (nat_lt most_project_bytes (before + length file.1) ≡ false) × (past_bytes (before + length file.1) files ≡ None)
 not_past before file files none =
     passed_none (nat_lt most_file_bytes (length file.1)) (nat_lt most_project_bytes (before + length file.1)) (past_bytes (before + length file.1) files) none
 
@@ -100,7 +105,7 @@ whole_files before [] none = refl
 whole_files before (file ∷ files) none =
     let parts = not_past before file files none in
     ap (λ (t : List ℕ). (file.0, t) ∷ map front_of files) (front_is file.1 parts.0)
-    ∙ ap (λ (others : List File). file ∷ others) (whole_files (before + length file.1) files parts.1)
+    ∙ ap (λ (others : List File). file ∷ others) (whole_files (before + length file.1) files parts.2)
 
 pub whole : (files : List File) → limit_of files ≡ None → map front_of files ≡ files
 whole files none = whole_files 0 files (none_past files none)
@@ -110,7 +115,7 @@ small_files : (before : ℕ) (files : List File) → past_bytes before files ≡
 small_files before [] none = All-nil IsSmall
 small_files before (file ∷ files) none =
     let parts = not_past before file files none in
-    All-cons IsSmall file files (ltb-false most_file_bytes (length file.1) parts.0) (small_files (before + length file.1) files parts.1)
+    All-cons IsSmall file files (ltb-false most_file_bytes (length file.1) parts.0) (small_files (before + length file.1) files parts.2)
 
 pub all_small : (files : List File) → limit_of files ≡ None → All IsSmall files
 all_small files none = small_files 0 files (none_past files none)

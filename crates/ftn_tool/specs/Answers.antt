@@ -1,165 +1,112 @@
 -- What a command line may answer, and what it leaves.
-use Rattle.std.specs.Prelude.{◌≡◌, ◌≢◌, ◌⊎◌, ℕ, List, [], ◌∷◌, ◌++◌, Option, Some, Result, Ok, Err, IfSome}
+use Rattle.std.specs.Prelude.{◌≡◌, ◌≢◌, ◌⊎◌, ℕ, List, [], ◌∷◌, ◌++◌, fold, take, Option, Some, Result, Ok, Err, IfSome}
 use Rattle.ftn_base.specs.Files.{File, project, with_file}
-use Rattle.ftn_base.specs.declared.fault.FaultKind.{FaultKind}
-use Rattle.ftn_base.specs.declared.limits.Limit.{Limit}
-use Rattle.ftn_base.specs.declared.place.Range.{Range}
 use Rattle.ftn_base.specs.declared.status.Status.{Status}
 use Rattle.ftn_base.specs.declared.status.Status.TheVariants as status
 use Rattle.free_scan.specs.FirstForm.{IsProgramText}
 use Rattle.free_scan.specs.declared.first_form.program.Program.{Program}
 use Rattle.ftn_tree.specs.declared.token.Token.{Token}
-use Rattle.rename_ref.specs.declared.judgement.Cond.{Cond}
-use Rattle.rename_ref.specs.declared.judgement.Judgement.TheVariants.{Refuse, Accept}
-use Rattle.rename_ref.specs.declared.rename.Rename.{Rename}
 use Rattle.rename_ref.specs.Keeping.{Keeps}
-use Rattle.store_io.specs.Counts.{Rose}
-use Rattle.store_io.specs.Told.{Takes, TakesFront}
 use Rattle.ftn_tool.specs.declared.command.Command.{Command}
-use Rattle.ftn_tool.specs.declared.command.Command.TheVariants.{Apply}
+use Rattle.ftn_tool.specs.declared.command.Command.TheVariants as commands
+use Rattle.ftn_tool.specs.declared.command.Order.{Order}
 use Rattle.ftn_tool.specs.declared.command.Order.TheVariants as orders
-use Rattle.ftn_tool.specs.Verdicts.{Verdict, broken, judgement, limited, not_built, IsVerdict, status_of, refused_line, fault_line, limit_line, not_built_line, applying_line, store_fault_line, bad_word_line}
-
--- a value before a call and after it
-pub record Change (A : Type 0) : Type 0 where
-  pub before : A
-  pub after : A
-
--- what the store and the sink tell, and their counts, before and after a call
-pub record Seen : Type 0 where
-  pub files : Change (Option (List File))
-  pub taken : Change (Option (List ℕ))
-  pub store : Change ℕ
-  pub sink : Change ℕ
-  pub wants : Change ℕ
-
-abbrev pub see : Option (List File) → Option (List File) → Option (List ℕ) → Option (List ℕ) → ℕ → ℕ → ℕ → ℕ → ℕ → ℕ → Seen
-see files_before files_after taken_before taken_after store_before store_after sink_before sink_after wants_before wants_after = record {
-  files = record { before = files_before; after = files_after };
-  taken = record { before = taken_before; after = taken_after };
-  store = record { before = store_before; after = store_after };
-  sink = record { before = sink_before; after = sink_after };
-  wants = record { before = wants_before; after = wants_after };
-}
-
-abbrev pub HasRisen : Change ℕ → Type 0
-HasRisen count = Rose count.before count.after
-
--- neither count of the sink rose
-abbrev pub SinkHolds : Seen → Type 0
-SinkHolds seen = (HasRisen seen.sink → ⊥) × (HasRisen seen.wants → ⊥)
-
--- the sink took a part of the text from its front on, and the whole where no count of it rose
-pub record Says (seen : Seen) (text : List ℕ) : Type 0 where
-  pub front : TakesFront text seen.taken.before seen.taken.after
-  pub whole : SinkHolds seen → Takes text seen.taken.before seen.taken.after
-
-abbrev pub KeepsFiles : Seen → Type 0
-KeepsFiles seen = seen.files.after ≡ seen.files.before
+use Rattle.ftn_tool.specs.declared.verdict.Verdict.{Verdict}
+use Rattle.ftn_tool.specs.Lines.{line_of, store_fault_line, bad_word_line}
+use Rattle.ftn_tool.specs.Seen.{Seen, HasRisen, HasTaken, HasTakenFront, KeepsFiles, Says}
+use Rattle.ftn_tool.specs.Verdicts.{IsVerdict, changed_by, sole, status_of}
 
 -- an answer that a device may force in place of the due one; want of memory is free
 abbrev pub Forced : Seen → Status → Type 0
 Forced seen status.StoreFault = HasRisen seen.store
 Forced seen status.OutputFault = HasRisen seen.sink
 Forced seen status.NoMemory = Unit {0}
-Forced seen status.Done = ⊥
-Forced seen status.Refused = ⊥
-Forced seen status.BadWords = ⊥
-Forced seen status.BadProject = ⊥
-Forced seen status.Limit = ⊥
-Forced seen status.InputFault = ⊥
-Forced seen status.ProgramFaulted = ⊥
-Forced seen status.StepsSpent = ⊥
-Forced seen status.Pending = ⊥
+Forced seen other = ⊥
 
--- the order is accepted, with the one file's name, text and tokens, and its new text
-pub record IsAccepted (order : Rename) (files : List File) (name text : List ℕ) (tokens : List Token) (new_text : List ℕ) : Type 0 where
-  pub verdict : IsVerdict order files (judgement name text tokens (Accept new_text))
-  -- the program that the old text spells
+-- ---- what an accepted order keeps
+
+-- the files after these were put among them, one after another
+abbrev pub with_files : List File → List File → List File
+with_files changed files = fold (λ all file. with_file file.0 file.1 all) files changed
+
+-- what an accepted order keeps of the program that the old text spells
+abbrev pub Preserves : Order → List ℕ → List ℕ → List Token → List ℕ → Program → Type 0
+Preserves (orders.Rename rename) name text tokens new_text program = Keeps rename name text tokens new_text program
+
+-- Today an order is accepted over the one file of a project in first form alone: the new project is that file with the new text, which
+-- writes the same and ends alike, and names denote the corresponding entities on corresponding storage.
+pub record IsFormKept (order : Order) (files changed : List File) : Type 0 where
+  pub name : List ℕ
+  pub text : List ℕ
+  pub new_text : List ℕ
+  pub only : sole (project files) ≡ Some (name, text)
+  pub change : changed ≡ (name, new_text) ∷ []
+  pub new_project : project (with_files changed files) ≡ changed
+  pub tokens : List Token
   pub program : Program
   pub spells : IsProgramText text program
-  -- the new project writes the same and ends alike, and its names denote the corresponding entities on corresponding storage
-  pub keeps : Keeps order name text tokens new_text program
+  pub keeps : Preserves order name text tokens new_text program
 
--- the order was carried out
-pub record CarriedOut (order : Rename) (files : List File) (seen : Seen) : Type 0 where
-  pub name : List ℕ
-  pub text : List ℕ
-  pub tokens : List Token
-  pub new_text : List ℕ
-  pub accepted : IsAccepted order files name text tokens new_text
-  -- the files are the old ones with the one file's text replaced by the new one
-  pub files_after : seen.files.after ≡ Some (with_file name new_text files)
-  -- so the new project is that file with its new text
-  pub new_project : project (with_file name new_text files) ≡ (name, new_text) ∷ []
-  pub said : Takes applying_line seen.taken.before seen.taken.after
+-- a question changes no file
+abbrev pub ChangeKeeps : Command → List File → List File → Type 0
+ChangeKeeps (commands.Ask request edition) files changed = changed ≡ []
+ChangeKeeps (commands.Apply order edition) files changed = IsFormKept order files changed
 
--- a condition failed
-pub record WasRefused (order : Rename) (files : List File) (seen : Seen) : Type 0 where
-  pub name : List ℕ
-  pub text : List ℕ
-  pub tokens : List Token
-  pub cond : Cond
-  pub at : Option ℕ
-  pub verdict : IsVerdict order files (judgement name text tokens (Refuse cond at))
-  pub said : Says seen (refused_line name text cond at)
+-- the command is to be carried out
+pub record IsAccepted (command : Command) (files : List File) (verdict : Verdict) : Type 0 where
+  pub due : IsVerdict command files verdict
+  pub done : status_of verdict ≡ status.Done
+  pub keeps : ChangeKeeps command files (changed_by verdict)
 
--- a file has a fault, told at its first byte
-pub record WasBroken (order : Rename) (files : List File) (seen : Seen) : Type 0 where
-  pub name : List ℕ
-  pub text : List ℕ
-  pub kind : FaultKind
-  pub bytes : Range
-  pub verdict : IsVerdict order files (broken name text kind bytes)
-  pub said : Says seen (fault_line name text kind bytes.start)
+-- ---- what each answer says of the project, of the files and of the sink
 
--- the project passes a limit
-pub record WasLimited (order : Rename) (files : List File) (seen : Seen) : Type 0 where
-  pub which : Limit
-  pub verdict : IsVerdict order files (limited which)
-  pub said : Says seen (limit_line which)
+-- the command was carried out: the files are the old ones with the changed ones among them, and the line was written
+pub record WasDone (command : Command) (files : List File) (seen : Seen) : Type 0 where
+  pub verdict : Verdict
+  pub accepted : IsAccepted command files verdict
+  pub files_after : seen.files.after ≡ Some (with_files (changed_by verdict) files)
+  pub said : HasTaken seen (line_of (project files) verdict)
 
--- the store failed as the new text was put
-pub record FailedAtPut (order : Rename) (files : List File) (seen : Seen) : Type 0 where
-  pub name : List ℕ
-  pub text : List ℕ
-  pub tokens : List Token
-  pub new_text : List ℕ
-  pub accepted : IsAccepted order files name text tokens new_text
-  pub files_after : (seen.files.after ≡ Some files) ⊎ (seen.files.after ≡ Some (with_file name new_text files))
-  pub said : Says seen (applying_line ++ store_fault_line)
+-- the verdict has this answer, and its line was written, as far as the sink took it
+pub record WasSaid (command : Command) (files : List File) (seen : Seen) (answer : Status) : Type 0 where
+  pub verdict : Verdict
+  pub due : IsVerdict command files verdict
+  pub status_is : answer ≡ status_of verdict
+  pub said : Says seen (line_of (project files) verdict)
 
--- the sink failed as the change was announced
-pub record FailedAtLine (order : Rename) (files : List File) (seen : Seen) : Type 0 where
-  pub name : List ℕ
-  pub text : List ℕ
-  pub tokens : List Token
-  pub new_text : List ℕ
-  pub accepted : IsAccepted order files name text tokens new_text
-  pub said : TakesFront applying_line seen.taken.before seen.taken.after
+-- the store failed as changed files were put: so many of them are put
+pub record FailedAtPut (command : Command) (files : List File) (seen : Seen) : Type 0 where
+  pub verdict : Verdict
+  pub accepted : IsAccepted command files verdict
+  pub put : ℕ
+  pub files_after : seen.files.after ≡ Some (with_files (take put (changed_by verdict)) files)
+  pub said : Says seen (line_of (project files) verdict ++ store_fault_line)
 
--- what each answer says of the project and of the sink
-abbrev pub Answered : Rename → List File → Seen → Status → Type 0
-Answered order files seen status.Done = CarriedOut order files seen
-Answered order files seen status.Refused = WasRefused order files seen
-Answered order files seen status.BadProject = WasBroken order files seen ⊎ (IsVerdict order files not_built × Says seen not_built_line)
-Answered order files seen status.Limit = WasLimited order files seen
-Answered order files seen status.StoreFault = (KeepsFiles seen × Says seen store_fault_line) ⊎ FailedAtPut order files seen
-Answered order files seen status.OutputFault = FailedAtLine order files seen
-Answered order files seen status.NoMemory = TakesFront applying_line seen.taken.before seen.taken.after
-Answered order files seen status.BadWords = ⊥
-Answered order files seen status.InputFault = ⊥
-Answered order files seen status.ProgramFaulted = ⊥
-Answered order files seen status.StepsSpent = ⊥
-Answered order files seen status.Pending = ⊥
+-- the sink didn't take the whole line of a command that is to be carried out, or there was no memory to do so
+pub record FailedAtLine (command : Command) (files : List File) (seen : Seen) : Type 0 where
+  pub verdict : Verdict
+  pub accepted : IsAccepted command files verdict
+  pub said : HasTakenFront seen (line_of (project files) verdict)
 
--- What `apply rename` promises. The first two fields speak of stores that tell their files, the others of every store.
-pub record Applies (order : Rename) (seen : Seen) (answer : Status) : Type 0 where
-  pub answered : IfSome seen.files.before (λ files. Answered order files seen answer)
+abbrev pub Answered : Command → List File → Seen → Status → Type 0
+Answered command files seen status.Done = WasDone command files seen
+Answered command files seen status.StoreFault = (KeepsFiles seen × Says seen store_fault_line) ⊎ FailedAtPut command files seen
+Answered command files seen status.OutputFault = FailedAtLine command files seen
+Answered command files seen status.NoMemory = (seen.taken.after ≡ seen.taken.before) ⊎ FailedAtLine command files seen
+Answered command files seen other = WasSaid command files seen other
+
+-- a question leaves the files as they are; an order changes them only at these two answers
+abbrev pub LeavesFiles : Command → Seen → Status → Type 0
+LeavesFiles (commands.Ask request edition) seen answer = KeepsFiles seen
+LeavesFiles (commands.Apply order edition) seen answer = answer ≢ status.Done → answer ≢ status.StoreFault → KeepsFiles seen
+
+-- What a command over the files of a project promises. The first two fields speak of stores that tell their files, the others of every
+-- store.
+pub record Answers (command : Command) (seen : Seen) (answer : Status) : Type 0 where
+  pub answered : IfSome seen.files.before (λ files. Answered command files seen answer)
   -- the answer is the due one, or one that a device forced, or want of memory
-  pub due : IfSome seen.files.before (λ files. (verdict : Verdict) → IsVerdict order files verdict → (answer ≡ status_of verdict) ⊎ Forced seen answer)
-  -- files change only at these two answers
-  pub before : answer ≢ status.Done → answer ≢ status.StoreFault → KeepsFiles seen
+  pub due : IfSome seen.files.before (λ files. (verdict : Verdict) → IsVerdict command files verdict → (answer ≡ status_of verdict) ⊎ Forced seen answer)
+  pub files : LeavesFiles command seen answer
   pub store_fault : answer ≡ status.StoreFault → HasRisen seen.store
   pub output_fault : answer ≡ status.OutputFault → HasRisen seen.sink
 
@@ -172,5 +119,5 @@ pub record Misreads (position : ℕ) (seen : Seen) (answer : Status) : Type 0 wh
 
 -- What is promised for the words of a command line: by the command that they mean, or the position of the bad word.
 abbrev pub Promises : Result Command ℕ → Seen → Status → Type 0
-Promises (Ok (Apply (orders.Rename order))) seen answer = Applies order seen answer
+Promises (Ok command) seen answer = Answers command seen answer
 Promises (Err position) seen answer = Misreads position seen answer

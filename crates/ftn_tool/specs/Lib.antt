@@ -1,7 +1,9 @@
 pub mod Words
+pub mod Commands
+pub mod BuiltFaults
+pub mod Lines
 pub mod Verdicts
+pub mod Seen
 pub mod Answers
-pub mod Replies
-pub mod Orders
 pub mod Rising
 pub mod steps

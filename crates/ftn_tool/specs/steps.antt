@@ -1,3 +1,4 @@
 pub mod Fronts
 pub mod Found
+pub mod Carrying
 pub mod Reading

@@ -1,25 +1,32 @@
-//! Carrying out a reply on the store and the sink.
+//! Carrying out a verdict on the store and the sink.
 
 ghost use Rattle.std.specs.Prelude.{◌≡◌, ◌≤◌, IfErr, OnErr, OnOk};
 ghost use Rattle.store_io.specs.Counts.{Rose};
 ghost use Rattle.store_io.specs.Told.{Takes, TakesFront};
-ghost use Rattle.ftn_tool.specs.Answers.{see};
-ghost use Rattle.ftn_tool.specs.Replies.{Carries, IsSinkFault, Put};
+ghost use Rattle.ftn_tool.specs.Seen.{see};
+ghost use Rattle.ftn_tool.specs.steps.Carrying.{Announced, Carries, IsSinkFault, Put};
 
 use crate::lines::STORE_FAULT;
-use crate::reply::Reply;
+use crate::verdict::Verdict;
 use ftn_base::{Bytes, FileName, Status};
 use store_io::{Sink, SinkFault, Store, write_all};
 
-/// Carries out the reply: announces the change and puts the file, if there is one, or else writes the line.
-pub fn carry_out<S: Store, O: Sink>(store: &mut S, out: &mut O, reply: Reply) -> Status
-    ensures carried { Carries reply (see (S.files store.old) (S.files store.new) (O.taken out.old) (O.taken out.new) (S.faults store.old) (S.faults store.new) (O.faults out.old) (O.faults out.new) (O.wants out.old) (O.wants out.new)) result }
+/// Carries out the verdict, whose line this is: writes the line, and puts the file that has a new text, if there is one.
+pub fn carry_out<S: Store, O: Sink>(
+    store: &mut S,
+    out: &mut O,
+    line: &[u8],
+    verdict: Verdict,
+) -> Status
+    ensures carried { Carries line.now verdict (see (S.files store.old) (S.files store.new) (O.taken out.old) (O.taken out.new) (S.faults store.old) (S.faults store.new) (O.faults out.old) (O.faults out.new) (O.wants out.old) (O.wants out.new)) result }
     ensures later { S.faults store.old ≤ S.faults store.new }
 {
-    let Reply { status, line, put } = reply;
-    match put {
-        None => say(out, line.bytes(), status),
-        Some((name, text)) => put_file(store, out, line.bytes(), name, text),
+    match verdict {
+        Verdict::Past(_) => say(out, line, Status::Limit),
+        Verdict::Broken(_) | Verdict::NotBuilt => say(out, line, Status::BadProject),
+        Verdict::Refused { .. } => say(out, line, Status::Refused),
+        Verdict::Checked { .. } => finish(out, line),
+        Verdict::Changed { name, text } => put_file(store, out, line, name, text),
     }
 }
 
@@ -33,6 +40,16 @@ pub fn say<O: Sink>(out: &mut O, line: &[u8], status: Status) -> Status
 {
     let _ = write_all(out, line);
     status
+}
+
+/// Writes the line with which a command is carried out.
+fn finish<O: Sink>(out: &mut O, line: &[u8]) -> Status
+    ensures { Announced line.now (O.taken out.old) (O.taken out.new) (O.faults out.old) (O.faults out.new) result }
+{
+    match announce(out, line) {
+        Ok(()) => Status::Done,
+        Err(status) => status,
+    }
 }
 
 fn announce<O: Sink>(out: &mut O, line: &[u8]) -> Result<(), Status>

@@ -4,6 +4,7 @@ ghost use Rattle.std.specs.List.{list_all};
 ghost use Rattle.std.specs.Option.{option_copied};
 ghost use Rattle.std.specs.Prelude.{◌≡◌, ◌+◌, ◌<◌, ◌^◌, [], map, slice_get, Some};
 ghost use Rattle.std.specs.String.{string_bytes};
+ghost use Rattle.ftn_tool.specs.Commands.{edition_of};
 ghost use Rattle.ftn_tool.specs.Words as spec;
 ghost use Rattle.ftn_tool.specs.steps.Reading as reading;
 ghost use Rattle.ftn_tool.specs.steps.Reading.{Finds};
@@ -11,7 +12,7 @@ ghost use Rattle.ftn_base.specs.Letters as letters;
 ghost use Rattle.free_scan.specs.Spelling.{number_of};
 ghost use Rattle.ftn_tool.specs.declared.command.WordsFault.TheVariants.{NoMemory as no_memory};
 
-use ftn_base::{Bytes, FileName, NameFault, is_digit};
+use ftn_base::{Bytes, Edition, FileName, NameFault, is_digit};
 use rename_ref::Rename;
 use std::alloc::{AllocError, Global};
 
@@ -22,11 +23,31 @@ pub enum Order {
     Rename(Rename),
 }
 
-/// What a command line asks for.
+/// What is asked of a project, which stays as it is.
+#[derive(Clone, Copy)]
+pub enum Request {
+    /// `check`: its first fault, or how many files and program units it has.
+    Check,
+}
+
+/// What a command line asks for, and the edition that the files of the project are read by.
 #[derive(Drop)]
 pub enum Command {
+    /// `check`
+    Ask(Request, Edition),
     /// `apply ORDER ..`
-    Apply(Order),
+    Apply(Order, Edition),
+}
+
+impl Command {
+    /// The edition that the files of the project are read by.
+    pub fn edition(&self) -> Edition
+        ensures { result ≡ edition_of self.now }
+    {
+        match self {
+            Command::Ask(_, edition) | Command::Apply(_, edition) => *edition,
+        }
+    }
 }
 
 /// Why words are no command.
@@ -55,37 +76,127 @@ impl From<ftn_base::NoMemory> for WordsFault {
     }
 }
 
-/// The command that the words mean, the program's name left out.
+/// The command that the words mean, the program's name left out. `--edition=2003` may stand anywhere after the first word, once.
 pub fn read_words(alloc: Global, words: &[String]) -> Result<Command, WordsFault>
     ensures { Finds (λ command. command) result (spec.command_of (map string_bytes words.now)) }
 {
-    read(alloc, words)
+    let option = option_at(words);
+    match read(alloc, words, option) {
+        Ok(command) => Ok(command),
+        Err(WordsFault::Bad(position)) => Err(WordsFault::Bad(position_of(option, position))),
+        Err(WordsFault::NoMemory) => Err(WordsFault::NoMemory),
+    }
 }
 
-fn read(alloc: Global, words: &[String]) -> Result<Command, WordsFault>
-    ensures { Finds (λ command. command) result (reading.read (map string_bytes words.now)) }
+/// The place of the first word after the first one that names an edition, counted from 0.
+fn option_at(words: &[String]) -> Option<usize>
+    ensures { result ≡ reading.option_at (map string_bytes words.now) }
 {
-    text_at(words, 0, b"apply")?;
-    text_at(words, 1, b"rename")?;
-    let file = file_at(alloc, words, 2)?;
-    let line = count_at(words, 3)?;
-    let column = count_at(words, 4)?;
-    let new = plain_at(alloc, words, 5)?;
-    end_at(words, 6)?;
+    let mut at = 1;
+    'words: while at < words.len() {
+        if is_edition(words[at].as_bytes()) {
+            return Some(at);
+        }
+        at += 1;
+    }
+    None
+}
+
+fn is_edition(word: &[u8]) -> bool
+    ensures { result ≡ spec.is_edition word.now }
+{
+    is_text(b"--edition=2003", word)
+}
+
+fn edition_by(option: Option<usize>) -> Edition
+    ensures { result ≡ reading.edition_by option }
+{
+    match option {
+        None => Edition::F90,
+        Some(_) => Edition::F2003,
+    }
+}
+
+/// The position of a word, from 1, that has this position where the option is left out.
+fn position_of(option: Option<usize>, position: u32) -> u32
+    requires { position + 1 < 2 ^ 32 }
+    ensures { result ≡ reading.position_of option position }
+{
+    match option {
+        None => position,
+        Some(at) => {
+            if position as usize <= at {
+                position
+            } else {
+                position + 1
+            }
+        }
+    }
+}
+
+/// The command that these words mean without the option.
+fn read(alloc: Global, words: &[String], option: Option<usize>) -> Result<Command, WordsFault>
+    ensures { Finds (λ command. command) result (reading.read (reading.edition_by option) (reading.plain option (map string_bytes words.now))) }
+{
+    if is_check(words, option) {
+        end_at(words, option, 1)?;
+        return Ok(Command::Ask(Request::Check, edition_by(option)));
+    }
+    text_at(words, option, 0, b"apply")?;
+    text_at(words, option, 1, b"rename")?;
+    let file = file_at(alloc, words, option, 2)?;
+    let line = count_at(words, option, 3)?;
+    let column = count_at(words, option, 4)?;
+    let new = plain_at(alloc, words, option, 5)?;
+    end_at(words, option, 6)?;
     let order = Rename {
         file,
         line,
         column,
         new,
     };
-    Ok(Command::Apply(Order::Rename(order)))
+    Ok(Command::Apply(Order::Rename(order), edition_by(option)))
 }
 
-/// The word at that place, counted from 0.
-fn word_at(words: &[String], at: u32) -> Option<&[u8]>
+fn is_check(words: &[String], option: Option<usize>) -> bool
+    ensures { result ≡ reading.is_check (slice_get (reading.plain option (map string_bytes words.now)) 0) }
+{
+    match word_at(words, option, 0) {
+        Some(word) => is_text(b"check", word),
+        None => false,
+    }
+}
+
+/// The place of a word, counted from 0, that has this place where the option is left out.
+fn place_of(option: Option<usize>, at: u32) -> usize
+    requires { at + 1 < 2 ^ 32 }
+    ensures { result ≡ reading.place_of option at }
+{
+    match option {
+        None => at as usize,
+        Some(place) => {
+            if (at as usize) < place {
+                at as usize
+            } else {
+                at as usize + 1
+            }
+        }
+    }
+}
+
+/// The word at that place, counted from 0, where the option is left out.
+fn word_at(words: &[String], option: Option<usize>, at: u32) -> Option<&[u8]>
+    requires { at + 1 < 2 ^ 32 }
+    ensures { option_copied result ≡ slice_get (reading.plain option (map string_bytes words.now)) at }
+{
+    bytes_at(words, place_of(option, at))
+}
+
+/// The word at that place among all words.
+fn bytes_at(words: &[String], at: usize) -> Option<&[u8]>
     ensures { option_copied result ≡ slice_get (map string_bytes words.now) at }
 {
-    match words.get(at as usize) {
+    match words.get(at) {
         Some(word) => Some(word.as_bytes()),
         None => None,
     }
@@ -106,11 +217,16 @@ fn is_option(word: &[u8]) -> bool
     }
 }
 
-fn text_at<'a>(words: &'a [String], at: u32, text: &[u8]) -> Result<&'a [u8], WordsFault>
+fn text_at<'a>(
+    words: &'a [String],
+    option: Option<usize>,
+    at: u32,
+    text: &[u8],
+) -> Result<&'a [u8], WordsFault>
     requires { at + 1 < 2 ^ 32 }
-    ensures { Finds (λ word. word.now) result (reading.word_at (spec.is_text text.now) (map string_bytes words.now) at) }
+    ensures { Finds (λ word. word.now) result (reading.word_at (spec.is_text text.now) (reading.plain option (map string_bytes words.now)) at) }
 {
-    match word_at(words, at) {
+    match word_at(words, option, at) {
         Some(word) => {
             if is_text(text, word) {
                 Ok(word)
@@ -136,11 +252,16 @@ fn file_of(alloc: Global, word: &[u8], at: u32) -> Result<FileName, WordsFault>
     }
 }
 
-fn file_at(alloc: Global, words: &[String], at: u32) -> Result<FileName, WordsFault>
+fn file_at(
+    alloc: Global,
+    words: &[String],
+    option: Option<usize>,
+    at: u32,
+) -> Result<FileName, WordsFault>
     requires { at + 1 < 2 ^ 32 }
-    ensures { Finds (λ name. name) result (reading.word_at spec.is_file_word (map string_bytes words.now) at) }
+    ensures { Finds (λ name. name) result (reading.word_at spec.is_file_word (reading.plain option (map string_bytes words.now)) at) }
 {
-    match word_at(words, at) {
+    match word_at(words, option, at) {
         Some(word) => file_of(alloc, word, at),
         None => Err(WordsFault::Bad(at + 1)),
     }
@@ -188,11 +309,11 @@ fn count_of(word: &[u8], at: u32) -> Result<u32, WordsFault>
     }
 }
 
-fn count_at(words: &[String], at: u32) -> Result<u32, WordsFault>
+fn count_at(words: &[String], option: Option<usize>, at: u32) -> Result<u32, WordsFault>
     requires { at + 1 < 2 ^ 32 }
-    ensures { Finds (λ count. count) result (reading.count_at (map string_bytes words.now) at) }
+    ensures { Finds (λ count. count) result (reading.count_at (reading.plain option (map string_bytes words.now)) at) }
 {
-    match word_at(words, at) {
+    match word_at(words, option, at) {
         Some(word) => count_of(word, at),
         None => Err(WordsFault::Bad(at + 1)),
     }
@@ -208,21 +329,26 @@ fn plain_of(alloc: Global, word: &[u8], at: u32) -> Result<Bytes, WordsFault>
     Ok(Bytes::from_slice(alloc, word)?)
 }
 
-fn plain_at(alloc: Global, words: &[String], at: u32) -> Result<Bytes, WordsFault>
+fn plain_at(
+    alloc: Global,
+    words: &[String],
+    option: Option<usize>,
+    at: u32,
+) -> Result<Bytes, WordsFault>
     requires { at + 1 < 2 ^ 32 }
-    ensures { Finds (λ text. text) result (reading.word_at spec.is_plain_word (map string_bytes words.now) at) }
+    ensures { Finds (λ text. text) result (reading.word_at spec.is_plain_word (reading.plain option (map string_bytes words.now)) at) }
 {
-    match word_at(words, at) {
+    match word_at(words, option, at) {
         Some(word) => plain_of(alloc, word, at),
         None => Err(WordsFault::Bad(at + 1)),
     }
 }
 
-fn end_at(words: &[String], at: u32) -> Result<(), WordsFault>
+fn end_at(words: &[String], option: Option<usize>, at: u32) -> Result<(), WordsFault>
     requires { at + 1 < 2 ^ 32 }
-    ensures { Finds (λ _. []) result (reading.ended at (slice_get (map string_bytes words.now) at)) }
+    ensures { Finds (λ _. []) result (reading.ended at (slice_get (reading.plain option (map string_bytes words.now)) at)) }
 {
-    match word_at(words, at) {
+    match word_at(words, option, at) {
         Some(_) => Err(WordsFault::Bad(at + 1)),
         None => Ok(()),
     }

@@ -6,15 +6,16 @@
 //! said.
 #![tactic(auto)]
 
-mod apply;
 mod carry;
 mod checking;
 mod command;
+mod judging;
 mod lines;
 mod order;
+mod over_project;
 mod project;
-mod reply;
 mod top;
+mod verdict;
 
-pub use command::{Command, Order, WordsFault, read_words};
+pub use command::{Command, Order, Request, WordsFault, read_words};
 pub use top::tool;

@@ -1,19 +1,20 @@
 //! The lines that commands write, each with its LF.
 
+ghost use Rattle.std.specs.List.{All};
+ghost use Rattle.std.specs.Option.{option_map};
 ghost use Rattle.std.specs.Prelude.{◌≡◌, ◌+◌, ◌++◌, ◌<◌, ◌^◌, length, codes, IfOk};
 ghost use Rattle.std.specs.Fmt.{decimal};
 ghost use Rattle.ftn_base.specs.Places as places;
-ghost use Rattle.ftn_tool.specs.Verdicts as spec;
+ghost use Rattle.ftn_tool.specs.Lines as spec;
+ghost use Rattle.ftn_tool.specs.steps.Fronts.{IsSmall};
 
-use ftn_base::{FaultKind, FileName, Limit, NoMemory, line_and_column};
+use crate::verdict::{Point, Verdict};
+use ftn_base::{Bytes, Fault, FileName, Limit, NoMemory, Span, line_and_column};
 use rename_ref::Cond;
 use std::alloc::Global;
 
 /// What is written where a project isn't in first form.
-pub const NOT_BUILT: &[u8] = b"fault NotBuilt -\n";
-
-/// What is written before a change of one file.
-pub const APPLYING: &[u8] = b"applying 1 files\n";
+const NOT_BUILT: &[u8] = b"fault NotBuilt -\n";
 
 /// What is written where the store failed.
 pub const STORE_FAULT: &[u8] = b"store fault\n";
@@ -40,60 +41,120 @@ pub fn bad_word(alloc: Global, position: u32) -> Result<Vec<u8>, NoMemory>
     Ok(made)
 }
 
-/// What is written where a condition fails.
-pub fn refused(
+/// What is written with this verdict on these files.
+pub fn verdict_line(
     alloc: Global,
-    name: &FileName,
-    text: &[u8],
-    cond: Cond,
-    at: Option<u32>,
-) -> Result<Vec<u8>, NoMemory>
-    requires { length text.now + 2 < 2 ^ 32 }
-    ensures { IfOk result (λ made. made.items ≡ spec.refused_line name.now text.now cond at) }
+    files: &[(FileName, Bytes)],
+    verdict: &Verdict,
+) -> Result<Bytes, NoMemory>
+    requires { All IsSmall files.now }
+    ensures { IfOk result (λ made. made ≡ spec.line_of files.now verdict.now) }
 {
-    let place = place_text(alloc, name, text, at)?;
+    match verdict {
+        Verdict::Past(which) => Ok(Bytes::from_slice(alloc, limit_line(*which))?),
+        Verdict::Broken(fault) => fault_line(alloc, files, fault),
+        Verdict::NotBuilt => Ok(Bytes::from_slice(alloc, NOT_BUILT)?),
+        Verdict::Refused { cond, at } => refused_line(alloc, files, *cond, *at),
+        Verdict::Checked { files, units } => ok_line(alloc, *files, *units),
+        Verdict::Changed { .. } => applying_line(alloc, 1),
+    }
+}
+
+/// What is written where a condition fails.
+fn refused_line(
+    alloc: Global,
+    files: &[(FileName, Bytes)],
+    cond: Cond,
+    at: Option<Point>,
+) -> Result<Bytes, NoMemory>
+    requires { All IsSmall files.now }
+    ensures { IfOk result (λ made. made ≡ spec.refused_line files.now cond at) }
+{
+    let place = place_text(alloc, files, at)?;
     let mut made = Vec::from_slice(alloc, b"refused ")?;
     made.extend_from_slice(cond.name().as_bytes())?;
     made.extend_from_slice(b" ")?;
     made.extend_from_slice(&place)?;
     made.extend_from_slice(b"\n")?;
-    Ok(made)
+    Ok(Bytes::from_vec(made))
 }
 
-/// What is written where a file has a fault at this byte.
-pub fn fault_line(
-    alloc: Global,
-    name: &FileName,
-    text: &[u8],
-    kind: FaultKind,
-    at: u32,
-) -> Result<Vec<u8>, NoMemory>
-    requires { length text.now + 2 < 2 ^ 32 }
-    ensures { IfOk result (λ made. made.items ≡ spec.fault_line name.now text.now kind at) }
+/// What is written where the project has a fault.
+fn fault_line(alloc: Global, files: &[(FileName, Bytes)], fault: &Fault) -> Result<Bytes, NoMemory>
+    requires { All IsSmall files.now }
+    ensures { IfOk result (λ made. made ≡ spec.fault_line files.now fault.now) }
 {
-    let place = place_text(alloc, name, text, Some(at))?;
+    let place = place_text(alloc, files, start_of(fault.span))?;
     let mut made = Vec::from_slice(alloc, b"fault ")?;
-    made.extend_from_slice(kind.name().as_bytes())?;
+    made.extend_from_slice(fault.kind.name().as_bytes())?;
     made.extend_from_slice(b" ")?;
     made.extend_from_slice(&place)?;
     made.extend_from_slice(b"\n")?;
-    Ok(made)
+    Ok(Bytes::from_vec(made))
 }
 
+/// What is written before a change of so many files.
+fn applying_line(alloc: Global, files: u32) -> Result<Bytes, NoMemory>
+    ensures { IfOk result (λ made. made ≡ spec.applying_line files) }
+{
+    let files = files.to_string(alloc)?;
+    let mut made = Vec::from_slice(alloc, b"applying ")?;
+    made.extend_from_slice(files.as_bytes())?;
+    made.extend_from_slice(b" files\n")?;
+    Ok(Bytes::from_vec(made))
+}
+
+/// What is written where a project has no fault.
+fn ok_line(alloc: Global, files: u32, units: u32) -> Result<Bytes, NoMemory>
+    ensures { IfOk result (λ made. made ≡ spec.ok_line files units) }
+{
+    let files = files.to_string(alloc)?;
+    let units = units.to_string(alloc)?;
+    let mut made = Vec::from_slice(alloc, b"ok ")?;
+    made.extend_from_slice(files.as_bytes())?;
+    made.extend_from_slice(b" files, ")?;
+    made.extend_from_slice(units.as_bytes())?;
+    made.extend_from_slice(b" units\n")?;
+    Ok(Bytes::from_vec(made))
+}
+
+/// The first byte of a range.
+fn start_of(span: Option<Span>) -> Option<Point>
+    ensures { result ≡ option_map spec.start_of span }
+{
+    match span {
+        None => None,
+        Some(span) => Some(Point {
+            file: span.file,
+            at: span.range.start,
+        }),
+    }
+}
+
+/// `FILE:LINE:COLUMN`, or `-` without a place.
 fn place_text(
     alloc: Global,
-    name: &FileName,
-    text: &[u8],
-    at: Option<u32>,
+    files: &[(FileName, Bytes)],
+    point: Option<Point>,
 ) -> Result<Vec<u8>, NoMemory>
-    requires { length text.now + 2 < 2 ^ 32 }
-    ensures { IfOk result (λ made. made.items ≡ spec.place_text name.now text.now at) }
+    requires { All IsSmall files.now }
+    ensures { IfOk result (λ made. made.items ≡ spec.place_text files.now point) }
 {
-    match at {
+    match point {
         None => Ok(Vec::from_slice(alloc, b"-")?),
-        Some(at) => {
-            let (line, column) = place_of(text, at as usize);
-            numbered(alloc, name, line, column)
+        Some(point) => point_text(alloc, files, point),
+    }
+}
+
+fn point_text(alloc: Global, files: &[(FileName, Bytes)], point: Point) -> Result<Vec<u8>, NoMemory>
+    requires { All IsSmall files.now }
+    ensures { IfOk result (λ made. made.items ≡ spec.point_text files.now point) }
+{
+    match files.get(point.file as usize) {
+        None => Ok(Vec::from_slice(alloc, b"-")?),
+        Some(file) => {
+            let (line, column) = place_of(file.1.bytes(), point.at as usize);
+            numbered(alloc, &file.0, line, column)
         }
     }
 }

@@ -3,13 +3,14 @@
 ghost use Rattle.std.specs.Prelude.{◌≡◌, ℕ, List, Option, map};
 ghost use Rattle.ftn_base.specs.Files.{File};
 ghost use Rattle.std.specs.String.{string_bytes};
-ghost use Rattle.ftn_tool.specs.Answers.{Misreads, Promises, see};
+ghost use Rattle.ftn_tool.specs.Answers.{Misreads, Promises};
+ghost use Rattle.ftn_tool.specs.Seen.{see};
 ghost use Rattle.ftn_tool.specs.Words.{command_of};
 
-use crate::apply::apply_order;
 use crate::carry::say;
-use crate::command::{Command, WordsFault, read_words};
+use crate::command::{WordsFault, read_words};
 use crate::lines::bad_word;
+use crate::over_project::carry_out_over_project;
 use ftn_base::Status;
 use std::alloc::Global;
 use store_io::{Sink, Source, Store};
@@ -23,18 +24,18 @@ pub fn tool<S: Store, I: Source, O: Sink>(
     input: &mut I,
     out: &mut O,
 ) -> Status
-    // The command's own promises: for `apply rename` they are `Applies`, for words that are no command `Misreads`.
+    // The command's own promises: `Answers`, or for words that are no command `Misreads`.
     ensures promises { Promises (command_of (map string_bytes words.now)) (see (S.files store.old) (S.files store.new) (O.taken out.old) (O.taken out.new) (S.faults store.old) (S.faults store.new) (O.faults out.old) (O.faults out.new) (O.wants out.old) (O.wants out.new)) result }
     // The source isn't read.
     ensures source { input.new ≡ input.old }
 {
     let _input = input;
-    let order = match read_words(alloc, words) {
-        Ok(Command::Apply(order)) => order,
+    let command = match read_words(alloc, words) {
+        Ok(command) => command,
         Err(WordsFault::Bad(position)) => return misread(alloc, out, position),
         Err(WordsFault::NoMemory) => return Status::NoMemory,
     };
-    apply_order(alloc, &order, store, out)
+    carry_out_over_project(alloc, &command, store, out)
 }
 
 /// Writes that the word at this position is bad or missing.

@@ -1,29 +1,35 @@
 -- What is found in files one after another. This serves the proof of the code.
-use Rattle.std.specs.Prelude.{◌≡◌, ℕ, List, Option, Some, None}
-use Rattle.std.specs.List.{All}
+use Rattle.std.specs.Prelude.{ℕ, List, Option, Some, None}
 use Rattle.ftn_base.specs.Files.{File}
+use Rattle.ftn_base.specs.declared.fault.Fault.{Fault}
 use Rattle.ftn_base.specs.declared.fault.FaultKind.{FaultKind}
 use Rattle.ftn_base.specs.declared.name.Edition.{Edition}
 use Rattle.ftn_base.specs.declared.place.Range.{Range}
 use Rattle.ftn_tree.specs.FileFaults.{IsTextFault, IsTreeOf}
-use Rattle.ftn_tree.specs.ProjectFaults.{HasTree, IsFirstFault}
+use Rattle.ftn_tree.specs.declared.table.TableFault.{TableFault}
+use Rattle.ftn_tree.specs.declared.table.TableFault.TheVariants as table_fault
 use Rattle.ftn_tree.specs.declared.unit.FileTree.{FileTree}
-use Rattle.ftn_tool.specs.Verdicts.{fault_line}
+use Rattle.unit_parse.specs.declared.fault.ParseFault.{ParseFault}
+use Rattle.unit_parse.specs.declared.fault.ParseFault.TheVariants as parse_fault
+use Rattle.ftn_tool.specs.BuiltFaults.{IsProjectFault, IsUnreadFault}
 
--- what is found in a text: nothing, where it has a tree, or its first fault, where it has none
-abbrev pub IsFound : Edition → List ℕ → Option (FaultKind × Range) → Type 0
-IsFound edition text None = (tree : FileTree) × IsTreeOf edition text tree
-IsFound edition text (Some found) = IsTextFault edition text found.0 found.1 × ((tree : FileTree) → IsTreeOf edition text tree → ⊥)
+-- the text has no tree, and this fault first
+abbrev pub IsUnread : Edition → List ℕ → ParseFault → Type 0
+IsUnread edition text (parse_fault.At kind range) = IsTextFault edition text kind range × ((tree : FileTree) → IsTreeOf edition text tree → ⊥)
+IsUnread edition text parse_fault.NoMemory = Unit {0}
 
--- the line of the first fault of these files, if there is one
-pub record TellsFault (edition : Edition) (files : List File) (told : List ℕ) : Type 0 where
-  pub name : List ℕ
-  pub text : List ℕ
-  pub kind : FaultKind
-  pub bytes : Range
-  pub first : IsFirstFault edition files name text kind bytes
-  pub line : told ≡ fault_line name text kind bytes.start
+abbrev pub fault_in : ℕ → FaultKind → Range → Fault
+fault_in file kind range = record { kind = kind; span = Some (record { file = file; range = range }); other = None }
 
-abbrev pub IsFirstLine : Edition → List File → Option (List ℕ) → Type 0
-IsFirstLine edition files None = All (HasTree edition) files
-IsFirstLine edition files (Some line) = TellsFault edition files line
+-- why the file of that number isn't read
+abbrev pub told_in : ℕ → ParseFault → TableFault
+told_in file (parse_fault.At kind range) = table_fault.Project (fault_in file kind range)
+told_in file parse_fault.NoMemory = table_fault.NoMemory
+
+abbrev pub IsToldUnread : Edition → List File → TableFault → Type 0
+IsToldUnread edition files (table_fault.Project fault) = IsUnreadFault edition files fault
+IsToldUnread edition files table_fault.NoMemory = Unit {0}
+
+abbrev pub IsTold : Edition → List File → TableFault → Type 0
+IsTold edition files (table_fault.Project fault) = IsProjectFault edition files fault
+IsTold edition files table_fault.NoMemory = Unit {0}

@@ -1,13 +1,16 @@
 -- Reading words from the first on, as the code does. This serves the proof that the code finds the command
 -- and the position that `Words` defines.
-use Rattle.std.specs.Prelude.{◌≡◌, ℕ, ◌+◌, ◌^◌, nat_lt, Bool, List, [], codes, Option, Some, None, Result, Ok, Err, if◌then◌else◌, slice_get}
+use Rattle.std.specs.Prelude.{◌≡◌, ℕ, ◌+◌, ◌^◌, nat_lt, nat_le, Bool, false, List, [], ◌∷◌, ◌++◌, take, drop, codes, Option, Some, None, Result, Ok, Err, if◌then◌else◌, slice_get}
 use Rattle.free_scan.specs.Spelling.{number_of}
 use Rattle.ftn_tool.specs.declared.command.Command.{Command}
-use Rattle.ftn_tool.specs.declared.command.Command.TheVariants.{Apply}
+use Rattle.ftn_base.specs.declared.name.Edition.{Edition}
+use Rattle.ftn_base.specs.declared.name.Edition.TheVariants.{F90, F2003}
+use Rattle.ftn_tool.specs.declared.command.Command.TheVariants.{Apply, Ask}
+use Rattle.ftn_tool.specs.declared.command.Request.TheVariants.{Check}
 use Rattle.ftn_tool.specs.declared.command.Order.TheVariants.{Rename}
 use Rattle.ftn_tool.specs.declared.command.WordsFault.{WordsFault}
 use Rattle.ftn_tool.specs.declared.command.WordsFault.TheVariants as faults
-use Rattle.ftn_tool.specs.Words.{Word, is_text, is_file_word, is_count_word, is_plain_word}
+use Rattle.ftn_tool.specs.Words.{Word, is_edition, is_text, is_file_word, is_count_word, is_plain_word}
 
 infixl 10 ◌>>=◌
 abbrev pub ◌>>=◌ : {A B : Type 0} → Result A ℕ → (A → Result B ℕ) → Result B ℕ
@@ -37,11 +40,11 @@ counted at word = tested is_count_word at word >>= (λ text. Ok (number_of text)
 abbrev pub count_at : List Word → ℕ → Result ℕ ℕ
 count_at words at = counted at (slice_get words at)
 
-abbrev pub rename_of : Word → ℕ → ℕ → Word → Command
-rename_of file line column new = Apply (Rename (record { file = file; line = line; column = column; new = new }))
+abbrev pub rename_of : Edition → Word → ℕ → ℕ → Word → Command
+rename_of edition file line column new = Apply (Rename (record { file = file; line = line; column = column; new = new })) edition
 
-abbrev pub read : List Word → Result Command ℕ
-read words =
+abbrev pub read_apply : Edition → List Word → Result Command ℕ
+read_apply edition words =
     word_at (is_text (codes "apply")) words 0 >>= (λ a.
     word_at (is_text (codes "rename")) words 1 >>= (λ r.
     word_at is_file_word words 2 >>= (λ file.
@@ -49,7 +52,44 @@ read words =
     count_at words 4 >>= (λ column.
     word_at is_plain_word words 5 >>= (λ new.
     ended 6 (slice_get words 6) >>= (λ no_more.
-    Ok (rename_of file line column new))))))))
+    Ok (rename_of edition file line column new))))))))
+
+abbrev pub is_check : Option Word → Bool
+is_check None = false
+is_check (Some word) = is_text (codes "check") word
+
+abbrev pub read : Edition → List Word → Result Command ℕ
+read edition words =
+    if is_check (slice_get words 0) then ended 1 (slice_get words 1) >>= (λ no_more. Ok (Ask Check edition))
+    else read_apply edition words
+
+-- ---- the edition
+
+-- the place of the first word that names an edition, where the first of these has this place
+abbrev pub edition_from : ℕ → List Word → Option ℕ
+edition_from at [] = None
+edition_from at (word ∷ words) = if is_edition word then Some at else edition_from (at + 1) words
+
+abbrev pub option_at : List Word → Option ℕ
+option_at words = edition_from 1 (drop 1 words)
+
+abbrev pub edition_by : Option ℕ → Edition
+edition_by None = F90
+edition_by (Some at) = F2003
+
+-- the words without the one at that place
+abbrev pub plain : Option ℕ → List Word → List Word
+plain None words = words
+plain (Some at) words = take at words ++ drop (at + 1) words
+
+-- the place among all words, from 0, and the position, from 1
+abbrev pub place_of : Option ℕ → ℕ → ℕ
+place_of None i = i
+place_of (Some at) i = if nat_lt i at then i else i + 1
+
+abbrev pub position_of : Option ℕ → ℕ → ℕ
+position_of None k = k
+position_of (Some at) k = if nat_le k at then k else k + 1
 
 -- what a fault says of a reading, which is free for want of memory
 abbrev pub Fails : {A : Type 0} → WordsFault → Result A ℕ → Type 0

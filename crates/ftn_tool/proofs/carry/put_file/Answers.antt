@@ -1,7 +1,7 @@
 use Rattle.std.proofs.Common.{refl}
 use Rattle.store_io.specs.Told.{Takes}
 use Rattle.store_io.proofs.Taking.{takes_both}
-use Rattle.ftn_tool.specs.Verdicts.{store_fault_line}
+use Rattle.ftn_tool.specs.Lines.{store_fault_line}
 use Rattle.ftn_tool.proofs.Writing.{rose_since, takes_then_front}
 use Rattle.ftn_tool.proofs.carry.put_file.Goals as goal
 

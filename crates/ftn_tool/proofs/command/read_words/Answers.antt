@@ -1,10 +1,12 @@
-use Rattle.std.proofs.Common.{map, subst, Result}
+use Rattle.std.proofs.Common.{map, Ok, Err}
 use Rattle.std.specs.String.{string_bytes}
-use Rattle.std.proofs.Common.{ℕ}
-use Rattle.ftn_tool.specs.declared.command.Command.{Command}
-use Rattle.ftn_tool.specs.steps.Reading.{Finds}
-use Rattle.ftn_tool.proofs.Positions.{read_is_command_of}
+use Rattle.ftn_tool.proofs.Editions.{found_as}
 use Rattle.ftn_tool.proofs.command.read_words.Goals as goal
 
-pub returns : goal.returns
-returns c = let P : Result Command ℕ → Type 0 = λ reading. Finds (λ (command : Command). command) c.read.result reading in subst P (read_is_command_of (map string_bytes c.args.words.now)) c.read.ensures
+pub returns-in-Ok : goal.returns-in-Ok
+returns-in-Ok c = found_as (map string_bytes c.args.words.now) c.option_at-option.result (Ok c.in-Ok.command) c.option_at-option.ensures c.in-Ok.ensures
+
+pub returns-in-Err-Bad : goal.returns-in-Err-Bad
+returns-in-Err-Bad c =
+    rw c.position_of.ensures
+    (found_as (map string_bytes c.args.words.now) c.option_at-option.result (Err c.in-Err-Bad.position) c.option_at-option.ensures (rw c.in-Err-Bad.field-0-is at c.in-Err-Bad.ensures))
