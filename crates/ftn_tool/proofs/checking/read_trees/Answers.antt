@@ -16,7 +16,7 @@ returns-in-Err-clause-fault c =
     rw c.fault_in.ensures
     (subst (λ (n : ℕ). IsToldUnread c.args.edition c.args.files.now (told_in n c.in-Err.fault)) counted
     (tells_told c.args.edition c.args.files.now c.files.file-index c.file-item.result c.files.trees.items c.in-Err.fault c.files-test.true c.file-item.is c.files.invariant
-     (rw c.bytes.ensures at c.in-Err.ensures.fault)))
+    (rw c.bytes.ensures at c.in-Err.ensures.fault)))
 
 pub files-preserved : goal.files-preserved
 files-preserved c =
