@@ -1,5 +1,5 @@
 -- From the verdict that was carried out to what a command promises.
-use Rattle.std.proofs.Common.{◌≡◌, ◌≢◌, ℕ, ◌≤◌, List, [], ◌∷◌, ◌++◌, map, take, Option, None, Some, refl, sym, ap, subst, ◌∙◌, arith, inl, inr}
+use Rattle.std.proofs.Common.{◌≡◌, ◌≢◌, ℕ, ◌≤◌, List, [], ◌∷◌, ◌++◌, map, take, Option, None, Some, refl, sym, ap, subst, ◌∙◌, inl, inr}
 use Rattle.std.specs.Prelude.{◌⊎◌, IfSome, unwrap_or}
 use Rattle.std.specs.Option.{option_map}
 use Rattle.ftn_base.specs.Files.{File, IsInOrder, project, with_file}
@@ -16,7 +16,7 @@ use Rattle.rename_ref.specs.Keeping.{RenameKeeps}
 use Rattle.rename_ref.specs.declared.judgement.Judgement.{Judgement}
 use Rattle.rename_ref.specs.declared.judgement.Judgement.TheVariants.{Refuse, Accept}
 use Rattle.rename_ref.specs.declared.rename.Rename.{Rename}
-use Rattle.store_io.specs.Told.{MayPut, Takes, TakesFront}
+use Rattle.store_io.specs.Told.{MayPut}
 use Rattle.unit_parse.specs.Decided.{TextHasOneAnswer}
 use Rattle.ftn_tool.proofs.FirstFault.{fault_unsound}
 use Rattle.ftn_tool.proofs.NewProject.{new_project}
@@ -29,11 +29,11 @@ use Rattle.ftn_tool.specs.declared.command.Request.{Request}
 use Rattle.ftn_tool.specs.declared.command.Request.TheVariants as requests
 use Rattle.ftn_tool.specs.declared.verdict.Verdict.{Verdict}
 use Rattle.ftn_tool.specs.declared.verdict.Verdict.TheVariants.{Past, Broken, NotBuilt, Refused, Checked, Changed}
-use Rattle.ftn_tool.specs.Answers.{Answered, Answers, ChangeKeeps, Forced, IsAccepted, IsFormKept, LeavesFiles, WasDone, with_files}
+use Rattle.ftn_tool.specs.Answers.{Answered, Answers, ChangeKeeps, Forced, IsAccepted, IsFormKept, LeavesFiles, with_files}
 use Rattle.ftn_tool.specs.Commands.{edition_of}
 use Rattle.ftn_tool.specs.Lines.{limit_line, line_of, store_fault_line}
 use Rattle.ftn_tool.specs.Seen.{HasRisen, HasTaken, HasTakenFront, KeepsFiles, Says, Seen, see}
-use Rattle.ftn_tool.specs.Verdicts.{Gives, GivesOrder, GivesSound, IsJudged, IsVerdict, changed_by, checked, sole, status_of, verdict_of}
+use Rattle.ftn_tool.specs.Verdicts.{Gives, GivesOrder, GivesSound, IsJudged, IsVerdict, changed_by, status_of, verdict_of}
 use Rattle.ftn_tool.specs.steps.Carrying.{Announced, Carries, IsDue, Put, Said}
 use Rattle.ftn_tool.specs.steps.Fronts.{front_of}
 

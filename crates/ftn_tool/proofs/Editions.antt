@@ -1,8 +1,8 @@
 -- Where an edition stands among the words, reading the others finds the command and the position.
 use Rattle.std.proofs.Common.{◌≡◌, ℕ, zero, suc, ◌+◌, ◌≤◌, ◌<◌, Bool, true, false, cond, List, [], ◌∷◌, ◌++◌, length, take, drop, map, get_or, Option, Some, None, refl, sym, ap, ◌∙◌, subst, arith, length-append, inl, inr}
-use Rattle.std.specs.Prelude.{◌⊎◌, ◌||◌, nat_le, nat_lt, slice_get, Result, Ok, Err}
+use Rattle.std.specs.Prelude.{◌⊎◌, ◌||◌, nat_lt, slice_get, Result, Ok, Err}
 use Rattle.std.specs.List.{find, list_any}
-use Rattle.std.proofs.lemmas.Bool.{and_parts, or_parts, le-leb, lt-leb, ltb-true, ltb-false}
+use Rattle.std.proofs.lemmas.Bool.{or_parts, le-leb, lt-leb, ltb-true, ltb-false}
 use Rattle.std.proofs.Math.Seq.{take-append_seam, drop-append-add}
 use Rattle.ftn_base.specs.declared.name.Edition.{Edition}
 use Rattle.ftn_base.specs.declared.name.Edition.TheVariants.{F90, F2003}
@@ -10,7 +10,7 @@ use Rattle.ftn_tool.specs.declared.command.Command.{Command}
 use Rattle.ftn_tool.specs.Words.{Row, Word, bad_position, command_of, commands, edition_in, is_begun, is_edition, is_whole, least_bad, meant, plain, without_first}
 use Rattle.ftn_tool.specs.steps.Reading.{edition_by, edition_from, option_at, place_of, position_of, read}
 use Rattle.ftn_tool.specs.steps.Reading.{plain as left_out}
-use Rattle.ftn_tool.proofs.Positions.{meant_plain, plain_command, read_is_plain_command}
+use Rattle.ftn_tool.proofs.Positions.{meant_plain, read_is_plain_command}
 
 -- ---- words without the first that passes a test
 

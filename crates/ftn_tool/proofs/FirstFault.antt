@@ -1,6 +1,6 @@
 -- The first file that isn't read has the first fault, and where all are read, it is that of the stages after reading.
-use Rattle.std.proofs.Common.{◌≡◌, ℕ, ◌+◌, ◌<◌, ◌≤◌, List, [], ◌∷◌, ◌++◌, length, take, drop, get_or, Option, Some, None, inl, inr, refl, sym, ap, ◌∙◌, subst, arith}
-use Rattle.std.specs.Prelude.{Result, Ok, Err, IfErr, IfOk, IsOk, min}
+use Rattle.std.proofs.Common.{◌≡◌, ℕ, ◌+◌, ◌<◌, ◌≤◌, List, [], ◌∷◌, ◌++◌, length, take, drop, get_or, Some, inl, inr, refl, sym, ap, ◌∙◌, subst, arith}
+use Rattle.std.specs.Prelude.{Result, Ok, Err, IfErr, IfOk, min}
 use Rattle.std.proofs.lemmas.List.{drop_more, length-take, take_all, take_more, take-append-drop}
 use Rattle.std.proofs.lemmas.Option.{none-some}
 use Rattle.std.specs.List.{All}
@@ -12,7 +12,7 @@ use Rattle.ftn_base.specs.declared.name.Edition.{Edition}
 use Rattle.ftn_base.specs.declared.place.Range.{Range}
 use Rattle.ftn_tree.specs.Breaks.{Breach, Among, IsBreak, breaches_of}
 use Rattle.ftn_tree.specs.FileFaults.{IsFileTree, IsTreeFault, IsTreeOf}
-use Rattle.ftn_tree.specs.ProjectFaults.{HasTree, IsFirstFault}
+use Rattle.ftn_tree.specs.ProjectFaults.{HasTree}
 use Rattle.ftn_tree.specs.Reading.{tokens_of}
 use Rattle.ftn_tree.specs.declared.table.TableFault.{TableFault}
 use Rattle.ftn_tree.specs.declared.table.TableFault.TheVariants as table_fault
@@ -22,7 +22,7 @@ use Rattle.unit_parse.specs.Decided.{TextHasOneAnswer}
 use Rattle.unit_parse.specs.Parsing.{HasNoTree, IsParseFault}
 use Rattle.unit_parse.specs.declared.fault.ParseFault.{ParseFault}
 use Rattle.unit_parse.specs.declared.fault.ParseFault.TheVariants as parse_fault
-use Rattle.ftn_tool.specs.BuiltFaults.{AreSoundTrees, AreTreesOf, IsProjectFault, IsSound, IsUnreadFault, built_fault}
+use Rattle.ftn_tool.specs.BuiltFaults.{AreTreesOf, IsProjectFault, IsSound, IsUnreadFault, built_fault}
 use Rattle.ftn_tool.specs.steps.Found.{IsTold, IsToldUnread, IsUnread, fault_in, told_in}
 use Rattle.ftn_tool.proofs.Trees.{have_trees, push_tree, same_length}
 

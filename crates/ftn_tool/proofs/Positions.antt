@@ -1,6 +1,6 @@
 -- Reading words one after the other finds the command, or the least position with which differs command begins.
-use Rattle.std.proofs.Common.{◌≡◌, ℕ, ◌+◌, ◌≤◌, Bool, true, false, List, [], ◌∷◌, Option, Some, None, refl, sym, ap, ◌∙◌, subst, arith}
-use Rattle.std.specs.Prelude.{codes, length, take, slice_get, Result, Ok, Err}
+use Rattle.std.proofs.Common.{◌≡◌, ℕ, ◌+◌, ◌≤◌, Bool, true, false, List, [], ◌∷◌, Option, Some, None, refl, sym, subst, arith}
+use Rattle.std.specs.Prelude.{codes, length, slice_get, Result, Ok, Err}
 use Rattle.std.specs.List.{find}
 use Rattle.std.proofs.lemmas.Bool.{cond_both}
 use Rattle.std.proofs.lemmas.Slice.Eq.{bytes_eq-Decides}
@@ -9,7 +9,7 @@ use Rattle.ftn_tool.specs.declared.command.Command.{Command}
 use Rattle.ftn_tool.specs.declared.command.Command.TheVariants.{Ask}
 use Rattle.ftn_tool.specs.declared.command.Request.TheVariants.{Check}
 use Rattle.ftn_tool.specs.Words.{Row, Word, commands, is_begun, is_count_word, is_file_word, is_plain_word, is_text, is_whole, least_bad}
-use Rattle.ftn_tool.specs.steps.Reading.{◌>>=◌, count_at, counted, ended, is_check, read, read_apply, tested, word_at}
+use Rattle.ftn_tool.specs.steps.Reading.{◌>>=◌, counted, ended, is_check, read, read_apply, tested}
 
 -- ---- without an edition
 

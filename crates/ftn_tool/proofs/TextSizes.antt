@@ -1,12 +1,12 @@
 -- A text has no more statements than bytes.
-use Rattle.std.proofs.Common.{◌≡◌, ℕ, suc, ◌+◌, ◌≤◌, Bool, true, false, cond, List, [], ◌∷◌, ◌++◌, length, length-append, take, drop, Option, None, refl, sym, ap, subst, arith}
+use Rattle.std.proofs.Common.{◌≡◌, ℕ, suc, ◌+◌, ◌≤◌, Bool, true, false, cond, List, [], ◌∷◌, ◌++◌, length, take, drop, Option, None, refl, ap, arith}
 use Rattle.std.specs.Prelude.{◌&&◌, ◌==◌, ◌-◌, min, not}
 use Rattle.std.specs.List.{ends_with, filter, onto_first, slice_split, sum_by}
 use Rattle.std.proofs.lemmas.Bool.{cond_both}
 use Rattle.std.proofs.lemmas.List.{length-drop, length-take}
 use Rattle.std.proofs.lemmas.List.Sums.{sum_by-cons}
 use Rattle.ftn_base.specs.declared.name.Edition.{Edition}
-use Rattle.ftn_tree.specs.Code.{before_mark, code_len, code_of, goes_on, is_outside, is_wrong, quote_after, stem_len}
+use Rattle.ftn_tree.specs.Code.{before_mark, code_len, goes_on, is_outside, is_wrong, quote_after, stem_len}
 use Rattle.ftn_tree.specs.Lines.{Line, code_lines, is_comment, is_line_feed, lines_of, line_starts, placed, without_return}
 use Rattle.ftn_tree.specs.Logical.{Carried, Glyph, byte, gap, cut, after_line, glyph, glyphs, is_carried, joins, line_glyphs, open_at, row_from, row_of, said, skipped, text_glyphs, text_of}
 use Rattle.ftn_tree.specs.Reading.{tokens_of}

@@ -1,4 +1,4 @@
-use Rattle.std.proofs.Common.{◌≡◌, ◌∙◌, ◌<◌, true, false, length, sym, arith}
+use Rattle.std.proofs.Common.{◌≡◌, ◌∙◌, true, false, sym, arith}
 use Rattle.std.specs.String.{string_bytes}
 use Rattle.ftn_tool.specs.Words.{is_edition}
 use Rattle.ftn_tool.proofs.Editions.{edition_not, edition_yes}
