@@ -1,0 +1,4 @@
+pub mod FirstTold
+pub mod Namings
+pub mod Seen
+pub mod steps
