@@ -1,11 +1,10 @@
 -- Subscripts, one after the other, are an element of an array.
-use Rattle.std.proofs.Common.{◌≡◌, refl, sym, ◌∙◌, ap, ap₂, subst, cond, arith, ℕ, suc, ℤ, pos, negsuc, Bool, true, false, List, [], ◌∷◌, map, length, Option, Some, None, Result, Ok, Err}
+use Rattle.std.proofs.Common.{◌≡◌, refl, sym, ◌∙◌, ap, ap₂, subst, cond, arith, ℕ, suc, ℤ, pos, negsuc, Bool, true, false, List, [], ◌∷◌, map, length, Option, Some, None, Ok, Err}
 use Rattle.std.specs.Prelude.{◌+ℤ◌, ◌-ℤ◌, int_lt, nat_lt, ◌==◌, not, ◌&&◌, ◌||◌}
 use Rattle.std.specs.Option.{is_some, option_map, option_and_then}
 use Rattle.std.proofs.lemmas.Bool.{le-ltb}
 use Rattle.std.proofs.lemmas.Bool.Decides.{nat_tests}
 use Rattle.std.proofs.lemmas.Int.{ints}
-use Rattle.ftn_tree.specs.declared.intrinsic.ValueFault.{ValueFault}
 use Rattle.ftn_tree.specs.declared.intrinsic.ValueFault.TheVariants.{OutOfRange, IllTyped}
 use Rattle.ftn_tree.specs.declared.value.Value.{Value}
 use Rattle.ftn_tree.specs.declared.value.Value.TheVariants as value
@@ -16,7 +15,7 @@ use Rattle.const_expr.specs.declared.references.Parts.{Parts}
 use Rattle.const_expr.specs.declared.references.Lookup.{Lookup}
 use Rattle.const_expr.specs.declared.references.Lookup.TheVariants as lookup
 use Rattle.const_expr.specs.steps.Parts.{looked_up, AreParts}
-use Rattle.const_expr.specs.steps.Subscripts.{is_within, are_whole, are_within, in_bounds, look_up, found_in, element_by}
+use Rattle.const_expr.specs.steps.Subscripts.{are_whole, are_within, in_bounds, look_up, found_in, element_by}
 
 -- ---- one subscript
 

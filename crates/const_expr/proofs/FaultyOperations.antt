@@ -1,5 +1,5 @@
 -- Operations on parts.
-use Rattle.std.proofs.Common.{◌≡◌, refl, sym, ◌∙◌, ap, subst, ℕ, List, [], ◌∷◌, ◌++◌, Option, Some, None, Result, Ok, Err}
+use Rattle.std.proofs.Common.{◌≡◌, sym, ◌∙◌, ap, ℕ, List, [], ◌∷◌, Option, Some, None, Result, Err}
 use Rattle.std.specs.List.{flat_map}
 use Rattle.ftn_tree.specs.declared.intrinsic.ValueFault.{ValueFault}
 use Rattle.ftn_tree.specs.declared.value.Value.{Value}

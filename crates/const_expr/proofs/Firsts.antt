@@ -8,7 +8,6 @@ use Rattle.std.proofs.lemmas.List.Elements.{filter_map-append}
 use Rattle.std.proofs.lemmas.Grind.{flat_map-append}
 use Rattle.ftn_tree.specs.declared.intrinsic.ValueFault.{ValueFault}
 use Rattle.ftn_tree.specs.Evaluations as spec
-use Rattle.const_expr.specs.declared.told.Told.{Told}
 use Rattle.const_expr.specs.FirstTold.{sooner, soonest, itself, breach_key, breach_told, told_by, joined}
 use Rattle.const_expr.specs.Seen.{told_in}
 use Rattle.const_expr.specs.steps.Parts.{told_in_parts}

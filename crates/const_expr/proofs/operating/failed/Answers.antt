@@ -1,4 +1,4 @@
-use Rattle.std.proofs.Common.{◌≡◌, ◌∙◌, ap, subst, Err}
+use Rattle.std.proofs.Common.{◌∙◌, ap, subst, Err}
 use Rattle.value_ops.specs.Answers.{Makes}
 use Rattle.const_expr.specs.FirstTold.{joined}
 use Rattle.const_expr.proofs.FaultyOperations.{faulty}

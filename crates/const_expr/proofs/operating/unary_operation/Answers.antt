@@ -1,4 +1,4 @@
-use Rattle.std.proofs.Common.{◌≡◌, sym, ◌∙◌, ap, subst, [], ◌∷◌, IfOk, Some}
+use Rattle.std.proofs.Common.{◌≡◌, sym, ◌∙◌, ap, subst, [], ◌∷◌, IfOk}
 use Rattle.std.specs.Option.{option_map}
 use Rattle.ftn_tree.specs.Evaluations as spec
 use Rattle.ftn_tree.specs.Operations.{unary_of}

@@ -1,4 +1,4 @@
-use Rattle.std.proofs.Common.{◌≡◌, ◌++◌, sym, ◌∙◌, ap, ap₂, subst, IfOk, Some, None, map}
+use Rattle.std.proofs.Common.{◌≡◌, ◌++◌, sym, ◌∙◌, ap, ap₂, subst, IfOk, Some}
 use Rattle.std.specs.Option.{option_map}
 use Rattle.ftn_tree.specs.Evaluations as spec
 use Rattle.ftn_tree.specs.Intrinsics.{intrinsic_value}

@@ -1,4 +1,4 @@
-use Rattle.std.proofs.Common.{◌≡◌, sym, ◌∙◌, ap, ap₂, subst, IfOk, Some, None}
+use Rattle.std.proofs.Common.{◌≡◌, sym, ◌∙◌, ap, ap₂, subst, IfOk, None}
 use Rattle.std.specs.Option.{option_and_then}
 use Rattle.ftn_tree.specs.Evaluations as spec
 use Rattle.const_expr.specs.Seen.{seen}

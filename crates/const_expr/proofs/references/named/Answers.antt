@@ -1,4 +1,4 @@
-use Rattle.std.proofs.Common.{◌≡◌, refl, sym, ◌∙◌, ap, subst, IfOk, Ok, Err}
+use Rattle.std.proofs.Common.{◌≡◌, refl, sym, ◌∙◌, subst, IfOk, Ok, Err}
 use Rattle.ftn_tree.specs.Evaluations as spec
 use Rattle.const_expr.specs.Seen.{seen}
 use Rattle.const_expr.specs.steps.Parts.{looked_up}

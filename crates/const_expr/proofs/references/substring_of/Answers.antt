@@ -2,7 +2,6 @@ use Rattle.std.proofs.Common.{◌≡◌, sym, ◌∙◌, ap, subst, IfOk, Some}
 use Rattle.ftn_tree.specs.Evaluations as spec
 use Rattle.const_expr.specs.declared.references.Range.{Range}
 use Rattle.const_expr.specs.Seen.{seen}
-use Rattle.const_expr.specs.steps.Parts.{range_seen}
 use Rattle.std.specs.Option.{option_map}
 use Rattle.const_expr.proofs.PartLists.{end_value, by_ends}
 use Rattle.const_expr.proofs.references.substring_of.Goals as goal

@@ -1,4 +1,4 @@
-use Rattle.std.proofs.Common.{◌≡◌, sym, ◌∙◌}
+use Rattle.std.proofs.Common.{sym, ◌∙◌}
 use Rattle.const_expr.proofs.PartLists.{told_of_ends}
 use Rattle.const_expr.proofs.references.told_of_range.Goals as goal
 

@@ -1,4 +1,4 @@
-use Rattle.std.proofs.Common.{◌≡◌, sym, ◌∙◌, ap, ap₂, [], ◌∷◌}
+use Rattle.std.proofs.Common.{sym, ◌∙◌, ap, ap₂, [], ◌∷◌}
 use Rattle.const_expr.specs.declared.evaluated.Evaluated.{Evaluated}
 use Rattle.const_expr.specs.FirstTold.{joined}
 use Rattle.const_expr.specs.steps.Parts.{values_with}
