@@ -10,6 +10,13 @@ fn is(text: &[u8], wanted: &[u8]) -> bool {
     text == wanted
 }
 
+fn is_text(value: &Option<Value>, wanted: &[u8]) -> bool {
+    match value {
+        Some(Value::Chars(text)) => text.bytes() == wanted,
+        _ => false,
+    }
+}
+
 fn bytes(alloc: Global, text: &[u8]) -> Option<Bytes> {
     Bytes::from_slice(alloc, text).ok()
 }
@@ -46,10 +53,7 @@ fn has_value(alloc: Global) -> Option<bool> {
         namings: &namings,
     };
     let made = evaluate(alloc, &known, &joined(alloc)?).ok()?;
-    let is_abc = match made.value {
-        Some(Value::Chars(text)) => is(text.bytes(), b"abc"),
-        _ => false,
-    };
+    let is_abc = is_text(&made.value, b"abc");
     let unknown = Setting {
         row: &[None, None, None],
         namings: &namings,
