@@ -2,6 +2,7 @@
 //! where a call is refused what it should be given.
 
 mod base;
+mod constants;
 mod devices;
 mod edit_rows;
 mod fields;
