@@ -3,6 +3,7 @@ use Rattle.std.proofs.Common.{inl, inr, ◌≡◌, ◌≤◌, ◌<◌, ◌+◌, 
 use Rattle.std.specs.Prelude.{ℤ, ◌⊎◌, ◌==◌, Bool, true, false, ◌&&◌, nat_le, nat_lt, slice_get, sum_by, if◌then◌else◌, Option, Some, None, Result, Ok, Err}
 use Rattle.std.specs.List.{list_any, repeat}
 use Rattle.std.specs.Option.{option_map, option_map_or}
+use Rattle.std.proofs.lemmas.Bool.{and_right}
 use Rattle.std.proofs.lemmas.Bool.Decides.{nat_tests}
 use Rattle.std.proofs.lemmas.List.{length-append, length-take-le}
 use Rattle.std.proofs.lemmas.Option.{slice_get_past}
@@ -51,10 +52,6 @@ answers_on R S (Err e) (Err e') f g h k = h
 beyond : (start size all at : ℕ) → start + size ≤ all → all ≤ at → (nat_le start at && nat_lt at (start + size)) ≡ false
 beyond start size all at h k = grind (arith, nat_tests)
 
-and_false : (a b : Bool) → b ≡ false → (a && b) ≡ false
-and_false true b h = h
-and_false false b h = refl
-
 no_area : (number at : ℕ) (areas : List Area) → ((k : ℕ) (area : Area) → slice_get areas k ≡ Some area → (is_emptied_by number area.emptied && (nat_le area.start at && nat_lt at (area.start + area.size))) ≡ false) →
     list_any (λ (area : Area). is_emptied_by number area.emptied && (nat_le area.start at && nat_lt at (area.start + area.size))) areas ≡ false
 no_area number at [] h = refl
@@ -69,7 +66,7 @@ starts_below begins size before all e h = omega arith
 pub not_emptied : (program : Program) → IsLawful program → (number at : ℕ) → units_in program ≤ at → is_emptied program number at ≡ false
 not_emptied program lawful number at h =
     no_area number at program.areas (λ k area e.
-    and_false (is_emptied_by number area.emptied) (nat_le area.start at && nat_lt at (area.start + area.size))
+    and_right (is_emptied_by number area.emptied) (nat_le area.start at && nat_lt at (area.start + area.size))
     (beyond area.start area.size (units_in program) at
     (starts_below area.start area.size (sum_by (λ (a : Area). a.size) (take k program.areas)) (units_in program) (lawful.areas k area e).begins (area_end program.areas k area e)) h))
 
