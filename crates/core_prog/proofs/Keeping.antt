@@ -45,11 +45,11 @@ module _ (Sure : M Way → Type 0) (Rel : ℕ → (A : Type 0) → M A → M A �
       value_kept (call at number args) =
           step_kept b _ _ (closed.binds b _ _ _ _ (arguments_kept args) (λ given. closed.binds b _ _ _ _ (closed.calls b program body other at number given (sure number) (sure' number) (λ c h. below c h number)) (λ result. told_kept b _)))
 
-      values_kept : (ts : Terms) → Rel b (List Value) (values_of program body ts) (values_of program other ts)
+      pub values_kept : (ts : Terms) → Rel b (List Value) (values_of program body ts) (values_of program other ts)
       values_kept none = closed.pures b []
       values_kept (next_term t rest) = closed.binds b _ _ _ _ (value_kept t) (λ v. closed.binds b _ _ _ _ (values_kept rest) (λ vs. closed.pures b (v ∷ vs)))
 
-      wholes_kept : (ts : Terms) → Rel b (List ℤ) (wholes_of program body ts) (wholes_of program other ts)
+      pub wholes_kept : (ts : Terms) → Rel b (List ℤ) (wholes_of program body ts) (wholes_of program other ts)
       wholes_kept none = closed.pures b []
       wholes_kept (next_term t rest) =
           closed.binds b _ _ _ _ (value_kept t) (λ v. closed.binds b _ _ _ _ (told_kept b (as_whole v)) (λ z. closed.binds b _ _ _ _ (wholes_kept rest) (λ zs. closed.pures b (z ∷ zs))))
@@ -58,7 +58,7 @@ module _ (Sure : M Way → Type 0) (Rel : ℕ → (A : Type 0) → M A → M A �
       bound_kept z no_bound = closed.pures b z
       bound_kept z (bound t) = closed.binds b _ _ _ _ (value_kept t) (λ v. told_kept b (as_whole v))
 
-      range_kept : (n : ℕ) (s : Section) → Rel b (Option (ℤ × ℤ)) (range_of program body n s) (range_of program other n s)
+      pub range_kept : (n : ℕ) (s : Section) → Rel b (Option (ℤ × ℤ)) (range_of program body n s) (range_of program other n s)
       range_kept n no_section = closed.pures b None
       range_kept n (section low high) =
           closed.binds b _ _ _ _ (bound_kept (pos 1) low) (λ x. closed.binds b _ _ _ _ (bound_kept (pos n) high) (λ y. closed.pures b (Some (x, y))))
@@ -109,16 +109,16 @@ module _ (Sure : M Way → Type 0) (Rel : ℕ → (A : Type 0) → M A → M A �
     with_kept at more r bytes None = ended_kept at bytes
     with_kept at more r bytes (Some byte) = byte_kept more more r bytes byte (is_item_byte byte)
 
-    run_kept : (at : Site) (n : ℕ) (bytes : List ℕ) → Rel b (List ℕ × Last) (run_of at n bytes) (run_of at n bytes)
+    pub run_kept : (at : Site) (n : ℕ) (bytes : List ℕ) → Rel b (List ℕ × Last) (run_of at n bytes) (run_of at n bytes)
     run_kept at zero bytes = closed.stops b _
     run_kept at (suc n) bytes = closed.binds b takes takes _ _ (closed.taken b) (with_kept at (run_of at n) (run_kept at n) bytes)
 
-    scalar_kept : (at : Site) (p : Place) → Rel b Last (scalar_in at p) (scalar_in at p)
+    pub scalar_kept : (at : Site) (p : Place) → Rel b Last (scalar_in at p) (scalar_in at p)
     scalar_kept at p =
         closed.binds b _ _ _ _ (closed.inputs b (λ n. run_of at n []) (λ n. run_of at n []) (λ n. run_kept at n [])) (λ run.
         closed.binds b _ _ _ _ (told_kept b (item_at at run.0 p.ty)) (λ value. step_kept b _ _ (closed.binds b _ _ _ _ (closed.put b p value) (λ _. closed.pures b run.1))))
 
-    elements_kept : (at : Site) (h : Holding) (n more : ℕ) (last : Last) → Rel b Last (elements_in at h n more last) (elements_in at h n more last)
+    pub elements_kept : (at : Site) (h : Holding) (n more : ℕ) (last : Last) → Rel b Last (elements_in at h n more last) (elements_in at h n more last)
     elements_kept at h n zero last = closed.pures b last
     elements_kept at h n (suc more) last = closed.binds b _ _ _ _ (scalar_kept at (element_at h n)) (elements_kept at h (suc n) more)
 
@@ -131,30 +131,30 @@ module _ (Sure : M Way → Type 0) (Rel : ℕ → (A : Type 0) → M A → M A �
     rest_with_kept at more r Amid (Some byte) = r (last_of byte)
     rest_with_kept at more r Over (Some byte) = r (last_of byte)
 
-    rest_kept : (at : Site) (n : ℕ) (last : Last) → Rel b (Unit {0}) (rest_of at n last) (rest_of at n last)
+    pub rest_kept : (at : Site) (n : ℕ) (last : Last) → Rel b (Unit {0}) (rest_of at n last) (rest_of at n last)
     rest_kept at zero last = closed.stops b _
     rest_kept at (suc n) Over = closed.pures b tt
     rest_kept at (suc n) Nothing = closed.binds b takes takes _ _ (closed.taken b) (rest_with_kept at (rest_of at n) (rest_kept at n) Nothing)
     rest_kept at (suc n) Amid = closed.binds b takes takes _ _ (closed.taken b) (rest_with_kept at (rest_of at n) (rest_kept at n) Amid)
 
-    out_kept : (at : Site) (h : Holding) (n more : ℕ) → Rel b (List Value) (elements_out at h n more) (elements_out at h n more)
+    pub out_kept : (at : Site) (h : Holding) (n more : ℕ) → Rel b (List Value) (elements_out at h n more) (elements_out at h n more)
     out_kept at h n zero = closed.pures b []
     out_kept at h n (suc more) = step_kept b _ _ (closed.binds b _ _ _ _ (closed.asked b (read_at at (element_at h n))) (λ v. closed.binds b _ _ _ _ (out_kept at h (suc n) more) (λ vs. closed.pures b (v ∷ vs))))
 
-    copies_kept : (v : Value) (more : ℕ) → Rel b (List Value) (copies_out v more) (copies_out v more)
+    pub copies_kept : (v : Value) (more : ℕ) → Rel b (List Value) (copies_out v more) (copies_out v more)
     copies_kept v zero = closed.pures b []
     copies_kept v (suc more) = closed.binds b tick tick _ _ (closed.ticks b) (λ _. closed.binds b _ _ _ _ (copies_kept v more) (λ vs. closed.pures b (v ∷ vs)))
 
-    filled_kept : (h : Holding) (v : Value) (n more : ℕ) → Rel b Way (filled h v n more) (filled h v n more)
+    pub filled_kept : (h : Holding) (v : Value) (n more : ℕ) → Rel b Way (filled h v n more) (filled h v n more)
     filled_kept h v n zero = closed.pures b GoOn
     filled_kept h v n (suc more) = closed.binds b tick tick _ _ (closed.ticks b) (λ _. closed.binds b _ _ _ _ (closed.put b (element_at h n) v) (λ _. filled_kept h v (suc n) more))
 
-    grown_kept : (at : Site) (h : Holding) (by : ℤ) → Rel b (Unit {0}) (grown at h by) (grown at h by)
+    pub grown_kept : (at : Site) (h : Holding) (by : ℤ) → Rel b (Unit {0}) (grown at h by) (grown at h by)
     grown_kept at h by =
         closed.binds b _ _ _ _ (closed.asked b (read_at at (element_at h 0))) (λ v. closed.binds b _ _ _ _ (told_kept b (as_whole v)) (λ z.
         closed.binds b _ _ _ _ (told_kept b (whole_at at (sum z by))) (λ w. closed.put b (element_at h 0) w)))
 
-    around_kept : (next next' : M Way) → Rel b Way next next' → (way : Way) → Rel b Way (around next way) (around next' way)
+    pub around_kept : (next next' : M Way) → Rel b Way next next' → (way : Way) → Rel b Way (around next way) (around next' way)
     around_kept next next' r GoOn = r
     around_kept next next' r (Exit zero) = closed.pures b GoOn
     around_kept next next' r (Exit (suc depth)) = closed.pures b (Exit depth)
@@ -162,24 +162,24 @@ module _ (Sure : M Way → Type 0) (Rel : ℕ → (A : Type 0) → M A → M A �
     around_kept next next' r (Cycle (suc depth)) = closed.pures b (Cycle depth)
     around_kept next next' r Return = closed.pures b Return
 
-    onward_kept : (next next' : M Way) → Rel b Way next next' → (way : Way) → Rel b Way (onward next way) (onward next' way)
+    pub onward_kept : (next next' : M Way) → Rel b Way next next' → (way : Way) → Rel b Way (onward next way) (onward next' way)
     onward_kept next next' r GoOn = r
     onward_kept next next' r (Exit depth) = closed.pures b _
     onward_kept next next' r (Cycle depth) = closed.pures b _
     onward_kept next next' r Return = closed.pures b _
 
-    rounds_kept : (n : ℕ) (after : M (Unit {0})) (turn turn' : M Way) → Rel b (Unit {0}) after after → Rel b Way turn turn' → Rel b Way (rounds n after turn) (rounds n after turn')
+    pub rounds_kept : (n : ℕ) (after : M (Unit {0})) (turn turn' : M Way) → Rel b (Unit {0}) after after → Rel b Way turn turn' → Rel b Way (rounds n after turn) (rounds n after turn')
     rounds_kept zero after turn turn' r t = closed.pures b GoOn
     rounds_kept (suc n) after turn turn' r t =
         step_kept b _ _ (closed.binds b turn turn' _ _ t (around_kept _ _ (closed.binds b after after _ _ r (λ _. rounds_kept n after turn turn' r t))))
 
-    whole_kept : (t : Term) → Rel b ℤ (whole_of program body t) (whole_of program other t)
+    pub whole_kept : (t : Term) → Rel b ℤ (whole_of program body t) (whole_of program other t)
     whole_kept t = closed.binds b _ _ _ _ (value_kept t) (λ v. told_kept b (as_whole v))
 
-    truth_kept : (t : Term) → Rel b Bool (truth_of program body t) (truth_of program other t)
+    pub truth_kept : (t : Term) → Rel b Bool (truth_of program body t) (truth_of program other t)
     truth_kept t = closed.binds b _ _ _ _ (value_kept t) (λ v. told_kept b (as_truth v))
 
-    written_kept : (w : act.Written) → Rel b (List Value) (written program body w) (written program other w)
+    pub written_kept : (w : act.Written) → Rel b (List Value) (written program body w) (written program other w)
     written_kept act.no_written = closed.pures b []
     written_kept (act.scalar t rest) = closed.binds b _ _ _ _ (value_kept t) (λ v. closed.binds b _ _ _ _ (written_kept rest) (λ vs. closed.pures b (v ∷ vs)))
     written_kept (act.array at number rest) =
@@ -187,23 +187,23 @@ module _ (Sure : M Way → Type 0) (Rel : ℕ → (A : Type 0) → M A → M A �
     written_kept (act.constants v bounds rest) =
         step_kept b _ _ (closed.binds b _ _ _ _ (copies_kept v (elements (map axis_from bounds))) (λ vs. closed.binds b _ _ _ _ (written_kept rest) (λ ws. closed.pures b _)))
 
-    wanted_kept : (w : act.Wanted) (last : Last) → Rel b Last (wanted program body w last) (wanted program other w last)
+    pub wanted_kept : (w : act.Wanted) (last : Last) → Rel b Last (wanted program body w last) (wanted program other w last)
     wanted_kept act.no_wanted last = closed.pures b last
     wanted_kept (act.one (designator at number subscripts range) rest) last =
         closed.binds b _ _ _ _ (place_kept (designator at number subscripts range)) (λ p. closed.binds b _ _ _ _ (scalar_kept at p) (wanted_kept rest))
     wanted_kept (act.each at number rest) last =
         closed.binds b _ _ _ _ (closed.asked b (holding program number)) (λ h. closed.binds b _ _ _ _ (elements_kept at h 0 h.count last) (wanted_kept rest))
 
-    counted_kept : (at : Site) (number : ℕ) (turn turn' : M Way) → Rel b Way turn turn' → (from to by : ℤ) → Rel b Way (counted program body at number turn from to by) (counted program other at number turn' from to by)
+    pub counted_kept : (at : Site) (number : ℕ) (turn turn' : M Way) → Rel b Way turn turn' → (from to by : ℤ) → Rel b Way (counted program body at number turn from to by) (counted program other at number turn' from to by)
     counted_kept at number turn turn' t from to by =
         closed.binds b _ _ _ _ (told_kept b (not_zero at by)) (λ _. closed.binds b _ _ _ _ (closed.asked b (holding program number)) (λ h.
         closed.binds b _ _ _ _ (closed.put b (element_at h 0) (Whole from)) (λ _. rounds_kept (turn_count from to by) _ turn turn' (grown_kept at h by) t)))
 
-    choice_kept : {A : Type 0} (yes : Bool) (m m' n n' : M A) → Rel b A m m' → Rel b A n n' → Rel b A (if yes then m else n) (if yes then m' else n')
+    pub choice_kept : {A : Type 0} (yes : Bool) (m m' n n' : M A) → Rel b A m m' → Rel b A n n' → Rel b A (if yes then m else n) (if yes then m' else n')
     choice_kept true m m' n n' r q = r
     choice_kept false m m' n n' r q = q
 
-    act_kept : (a : act.Action) → Rel b Way (stmts.act program body a) (stmts.act program other a)
+    pub act_kept : (a : act.Action) → Rel b Way (stmts.act program body a) (stmts.act program other a)
     act_kept (act.assign target t) =
         step_kept b _ _ (closed.binds b _ _ _ _ (place_kept target) (λ p. closed.binds b _ _ _ _ (value_kept t) (λ v. closed.binds b _ _ _ _ (closed.put b p v) (λ _. closed.pures b GoOn))))
     act_kept (act.fill number t) =
@@ -222,7 +222,7 @@ module _ (Sure : M Way → Type 0) (Rel : ℕ → (A : Type 0) → M A → M A �
         closed.binds b _ _ _ _ (closed.inputs b (λ n. rest_of at n last) (λ n. rest_of at n last) (λ n. rest_kept at n last)) (λ _. closed.pures b GoOn)))
 
     mutual
-      perform_kept : (a : act.Statement) → Rel b Way (stmts.perform program body a) (stmts.perform program other a)
+      pub perform_kept : (a : act.Statement) → Rel b Way (stmts.perform program body a) (stmts.perform program other a)
       perform_kept (act.does action) = act_kept action
       perform_kept (act.choose arms otherwise) = chosen_kept arms _ _ (block_kept otherwise)
       perform_kept (act.select t cases otherwise) = step_kept b _ _ (closed.binds b _ _ _ _ (whole_kept t) (λ z. selected_kept z cases _ _ (block_kept otherwise)))
@@ -236,11 +236,11 @@ module _ (Sure : M Way → Type 0) (Rel : ℕ → (A : Type 0) → M A → M A �
       block_kept act.empty = closed.pures b GoOn
       block_kept (act.row first rest) = closed.binds b _ _ _ _ (perform_kept first) (onward_kept _ _ (block_kept rest))
 
-      chosen_kept : (arms : act.Arms) (m m' : M Way) → Rel b Way m m' → Rel b Way (chosen program body arms m) (chosen program other arms m')
+      pub chosen_kept : (arms : act.Arms) (m m' : M Way) → Rel b Way m m' → Rel b Way (chosen program body arms m) (chosen program other arms m')
       chosen_kept act.no_arms m m' r = r
       chosen_kept (act.arm t turn rest) m m' r =
           step_kept b _ _ (closed.binds b _ _ _ _ (truth_kept t) (λ yes. choice_kept yes _ _ _ _ (block_kept turn) (chosen_kept rest m m' r)))
 
-      selected_kept : (z : ℤ) (cases : act.Cases) (m m' : M Way) → Rel b Way m m' → Rel b Way (selected program body z cases m) (selected program other z cases m')
+      pub selected_kept : (z : ℤ) (cases : act.Cases) (m m' : M Way) → Rel b Way m m' → Rel b Way (selected program body z cases m) (selected program other z cases m')
       selected_kept z act.no_cases m m' r = r
       selected_kept z (act.case values turn rest) m m' r = choice_kept (list_any (has z) values) _ _ _ _ (block_kept turn) (selected_kept z rest m m' r)

@@ -15,6 +15,7 @@ pub mod LinesLaws
 pub mod RowsLaws
 pub mod FirstsLaws
 pub mod WholeText
+pub mod TextSizes
 pub mod PlacesLaws
 pub mod PieceLaws
 pub mod ConstantLaws

@@ -94,7 +94,7 @@ pub struct Fault {
     pub kind: FaultKind,
     /// Where, if the fault has a place.
     pub span: Option<Span>,
-    /// The second place of `Twice` and of `Ambiguous`.
+    /// The second place of `Twice`, `Ambiguous`, `SortMismatch` and `InitialTwice`.
     pub other: Option<Span>,
 }
 

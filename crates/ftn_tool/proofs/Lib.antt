@@ -3,7 +3,6 @@ pub mod Positions
 pub mod Editions
 pub mod Sizes
 pub mod ProjectFiles
-pub mod TextSizes
 pub mod Trees
 pub mod FirstFault
 pub mod FormVerdicts

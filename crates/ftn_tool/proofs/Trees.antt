@@ -8,38 +8,22 @@ use Rattle.std.proofs.lemmas.List.Sums.{sum_by-cons}
 use Rattle.ftn_base.specs.Files.{File}
 use Rattle.ftn_base.specs.Limits.{most_project_bytes}
 use Rattle.ftn_base.specs.declared.name.Edition.{Edition}
-use Rattle.ftn_base.specs.declared.place.Range.{Range}
-use Rattle.ftn_tree.specs.FileFaults.{AreRead, IsTreeOf}
+use Rattle.ftn_tree.specs.FileFaults.{IsTreeOf}
 use Rattle.ftn_tree.specs.Marks.{is_construct, begins_arm}
 use Rattle.ftn_tree.specs.NestFaults.{marks_of}
 use Rattle.ftn_tree.specs.Nesting.{Held, Nested, Row, held, nest, none as no_more, spelled, stands}
 use Rattle.ftn_tree.specs.ProjectFaults.{HasTree}
 use Rattle.ftn_tree.specs.ProjectLimits.{limit_of, past_bytes}
 use Rattle.ftn_tree.specs.Projects.{AreTrees, IsSomeTree}
-use Rattle.ftn_tree.specs.Reading.{tokens_of}
 use Rattle.ftn_tree.specs.declared.mark.Mark.{Mark}
-use Rattle.ftn_tree.specs.declared.token.Tokens.{Tokens}
 use Rattle.ftn_tree.specs.declared.unit.FileTree.{FileTree}
-use Rattle.ftn_tree.specs.declared.unit.Statement.{Statement}
 use Rattle.ftn_tree.specs.declared.unit.Unit.{Unit as UnitTree}
 use Rattle.ftn_tool.specs.BuiltFaults.{AreTreesOf, units_of}
 use Rattle.ftn_tool.specs.steps.Fronts.{IsSmall}
 use Rattle.ftn_tool.proofs.Sizes.{none_few, none_past, not_past}
-use Rattle.ftn_tool.proofs.TextSizes.{statements_in_bytes}
+use Rattle.free_scan.proofs.TextSizes.{tree_statements, tree_tokens}
 
 -- ---- one file
-
-read_length : (tokens : Tokens) (ranges : List Range) (statements : List Statement) → AreRead tokens ranges statements → length statements ≡ length ranges
-read_length tokens [] [] are = refl
-read_length tokens [] (s ∷ statements) are = absurd are
-read_length tokens (r ∷ ranges) [] are = absurd are
-read_length tokens (r ∷ ranges) (s ∷ statements) are = ap (λ (n : ℕ). suc n) (read_length tokens ranges statements are.1)
-
--- a file has no more statements than bytes
-few_statements : (edition : Edition) (text : List ℕ) (tree : FileTree) → IsTreeOf edition text tree → length tree.statements ≤ length text
-few_statements edition text tree is =
-    let same : length tree.statements ≡ length (tokens_of text).statements = read_length (tokens_of text) (tokens_of text).statements tree.statements is.1.read in
-    omega (arith, same, statements_in_bytes edition text)
 
 held_units : (at : ℕ) (row : Row) → length (held at row).units ≤ length (spelled row)
 held_units at no_more = omega arith
@@ -72,6 +56,9 @@ bytes_of files = sum_by (λ (file : File). length file.1) files
 abbrev statements_of : List FileTree → ℕ
 statements_of trees = sum_by (λ (tree : FileTree). length tree.statements) trees
 
+abbrev tokens_of_all : List FileTree → ℕ
+tokens_of_all trees = sum_by (λ (tree : FileTree). length tree.tokens.items) trees
+
 few_bytes : (before : ℕ) (files : List File) → before ≤ most_project_bytes → past_bytes before files ≡ None → before + bytes_of files ≤ most_project_bytes
 few_bytes before [] small none = omega (arith, small)
 few_bytes before (file ∷ files) small none =
@@ -93,9 +80,20 @@ module _ (edition : Edition) where
   all_statements [] (tree ∷ trees) are = absurd are
   all_statements (file ∷ files) [] are = absurd are
   all_statements (file ∷ files) (tree ∷ trees) are =
-      let first : length tree.statements ≤ length file.1 = few_statements edition file.1 tree are.0 in
+      let first : length tree.statements ≤ length file.1 = tree_statements edition file.1 tree are.0 in
       let more : statements_of trees ≤ bytes_of files = all_statements files trees are.1 in
       let one : statements_of (tree ∷ trees) ≡ length tree.statements + statements_of trees = sum_by-cons (λ (t : FileTree). length t.statements) tree trees in
+      let other : bytes_of (file ∷ files) ≡ length file.1 + bytes_of files = sum_by-cons (λ (f : File). length f.1) file files in
+      omega (arith, first, more, one, other)
+
+  all_tokens : (files : List File) (trees : List FileTree) → AreTreesOf edition files trees → tokens_of_all trees ≤ bytes_of files
+  all_tokens [] [] are = omega arith
+  all_tokens [] (tree ∷ trees) are = absurd are
+  all_tokens (file ∷ files) [] are = absurd are
+  all_tokens (file ∷ files) (tree ∷ trees) are =
+      let first : length tree.tokens.items ≤ length file.1 = tree_tokens edition file.1 tree are.0 in
+      let more : tokens_of_all trees ≤ bytes_of files = all_tokens files trees are.1 in
+      let one : tokens_of_all (tree ∷ trees) ≡ length tree.tokens.items + tokens_of_all trees = sum_by-cons (λ (t : FileTree). length t.tokens.items) tree trees in
       let other : bytes_of (file ∷ files) ≡ length file.1 + bytes_of files = sum_by-cons (λ (f : File). length f.1) file files in
       omega (arith, first, more, one, other)
 
@@ -117,21 +115,20 @@ module _ (edition : Edition) where
   some_trees (file ∷ files) (tree ∷ trees) small are =
       All-cons IsSomeTree tree trees (edition, file.1, All-head IsSmall file files small, are.0) (some_trees files trees (All-tail IsSmall file files small) are.1)
 
-  project_statements : (files : List File) (trees : List FileTree) → limit_of files ≡ None → AreTreesOf edition files trees → statements_of trees ≤ most_project_bytes
-  project_statements files trees none are =
-      let bytes : 0 + bytes_of files ≤ most_project_bytes = few_bytes 0 files (omega arith) (none_past files none) in
-      omega (arith, bytes, all_statements files trees are)
+  project_bytes : (files : List File) → limit_of files ≡ None → bytes_of files ≤ most_project_bytes
+  project_bytes files none = let bytes : 0 + bytes_of files ≤ most_project_bytes = few_bytes 0 files (omega arith) (none_past files none) in omega (arith, bytes)
 
   -- trees of files within the limits are what the stages after reading ask for
   pub are_trees : (files : List File) (trees : List FileTree) → limit_of files ≡ None → All IsSmall files → AreTreesOf edition files trees → AreTrees trees
   are_trees files trees none small are = record {
     few = omega (arith, same_length files trees are, none_few files none);
     trees = some_trees files trees small are;
-    small = omega (arith, project_statements files trees none are);
+    small = omega (arith, project_bytes files none, all_statements files trees are);
+    short = omega (arith, project_bytes files none, all_tokens files trees are);
   }
 
   pub units_fit : (files : List File) (trees : List FileTree) → limit_of files ≡ None → AreTreesOf edition files trees → units_of trees < 2 ^ 32
-  units_fit files trees none are = omega (arith, project_statements files trees none are, all_units files trees are)
+  units_fit files trees none are = omega (arith, project_bytes files none, all_statements files trees are, all_units files trees are)
 
   -- ---- file by file
 

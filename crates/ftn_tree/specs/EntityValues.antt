@@ -1,5 +1,5 @@
 -- What is known of the entities of a project as values (Fortran 90, 2.4, 5.1, 5.2.10).
-use Rattle.std.specs.Prelude.{ℕ, Bool, true, false, if◌then◌else◌, List, [], map, slice_get, Option, Some, None}
+use Rattle.std.specs.Prelude.{ℕ, ◌-◌, ◌^◌, min, Bool, true, false, if◌then◌else◌, List, [], map, slice_get, Option, Some, None}
 use Rattle.std.specs.Option.{option_map, option_and_then, unwrap_or}
 use Rattle.ftn_base.specs.declared.entity.Length.TheVariants.{Assumed}
 use Rattle.ftn_base.specs.declared.entity.Ty.{Ty}
@@ -77,11 +77,15 @@ is_named_constant _ = false
 abbrev pub constant_of_entity : List FileTree → Entity → Option Value
 constant_of_entity files entity = if is_named_constant entity.kind then option_and_then (constant_by files) (holder files entity) else None
 
+-- 2 ^ 32 - 1 stands for every greater number too: more units than that are told later (this project's own)
+abbrev pub capped : ℕ → ℕ
+capped n = min n (2 ^ 32 - 1)
+
 abbrev pub numbered_given : List FileTree → givens.Given → Given
 numbered_given files g = record {
   entity = entity_number files g.key;
-  first = g.first;
-  count = g.count;
+  first = capped g.first;
+  count = capped g.count;
   value = g.value;
   span = span_of files g.at.file g.at.token;
 }

@@ -67,3 +67,11 @@ pub mod Givens
 pub mod EntityValues
 pub mod Calls
 pub mod StageFaults
+pub mod StorageObjects
+pub mod CommonLists
+pub mod EquivalenceTies
+pub mod InitialFaults
+pub mod StorageStage
+pub mod MainFaults
+pub mod LinkFaults
+pub mod ProjectLinks

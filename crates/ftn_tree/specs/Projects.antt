@@ -10,8 +10,9 @@ use Rattle.ftn_tree.specs.FileFaults.{IsTreeOf}
 abbrev pub IsSomeTree : FileTree → Type 0
 IsSomeTree tree = (edition : Edition) × (text : List ℕ) × (length text ≤ most_file_bytes) × IsTreeOf edition text tree
 
--- a project of files that have trees, within the limits
+-- a project of files that have trees, within the limits: each statement and each token takes a byte of its texts
 pub record AreTrees (files : List FileTree) : Type 0 where
   pub few : length files ≤ most_files
   pub trees : All IsSomeTree files
-  pub small : sum_by (λ tree. length tree.statements) files < 2 ^ 32
+  pub small : sum_by (λ tree. length tree.statements) files < 2 ^ 30
+  pub short : sum_by (λ tree. length tree.tokens.items) files < 2 ^ 30

@@ -1,4 +1,4 @@
--- A text has no more statements than bytes.
+-- A text has no more statements than bytes, and no more tokens; neither has its tree.
 use Rattle.std.proofs.Common.{◌≡◌, ℕ, suc, ◌+◌, ◌≤◌, Bool, true, false, cond, List, [], ◌∷◌, ◌++◌, length, take, drop, Option, None, refl, ap, arith}
 use Rattle.std.specs.Prelude.{◌&&◌, ◌==◌, ◌-◌, min, not}
 use Rattle.std.specs.List.{ends_with, filter, onto_first, slice_split, sum_by}
@@ -6,11 +6,16 @@ use Rattle.std.proofs.lemmas.Bool.{cond_both}
 use Rattle.std.proofs.lemmas.List.{length-drop, length-take}
 use Rattle.std.proofs.lemmas.List.Sums.{sum_by-cons}
 use Rattle.ftn_base.specs.declared.name.Edition.{Edition}
+use Rattle.ftn_base.specs.declared.place.Range.{Range}
 use Rattle.ftn_tree.specs.Code.{before_mark, code_len, goes_on, is_outside, is_wrong, quote_after, stem_len}
 use Rattle.ftn_tree.specs.Lines.{Line, code_lines, is_comment, is_line_feed, lines_of, line_starts, placed, without_return}
 use Rattle.ftn_tree.specs.Logical.{Carried, Glyph, byte, gap, cut, after_line, glyph, glyphs, is_carried, joins, line_glyphs, open_at, row_from, row_of, said, skipped, text_glyphs, text_of}
 use Rattle.ftn_tree.specs.Reading.{tokens_of}
 use Rattle.ftn_tree.specs.declared.piece.Spot.{Spot}
+use Rattle.ftn_tree.specs.declared.token.Tokens.{Tokens}
+use Rattle.ftn_tree.specs.declared.unit.FileTree.{FileTree}
+use Rattle.ftn_tree.specs.declared.unit.Statement.{Statement}
+use Rattle.ftn_tree.specs.FileFaults.{AreRead, IsTreeOf}
 use Rattle.free_scan.specs.steps.Scanning.{State, IsWithin, begun, finished, flushed, pushed, taken_all}
 use Rattle.free_scan.proofs.ScanLaws.{within_finished, within_flushed, within_more, within_pushed}
 use Rattle.free_scan.proofs.WholeText.{few_statements, scanned, whole_tokens}
@@ -146,10 +151,39 @@ row_bytes text =
 begun_within : (edition : Edition) → IsWithin 0 (begun edition)
 begun_within edition = omega arith
 
-pub statements_in_bytes : (edition : Edition) (text : List ℕ) → length (tokens_of text).statements ≤ length text
+whole_row : (edition : Edition) (text : List ℕ) → IsWithin (bytes_in (row_of text)) (taken_all (begun edition) (row_of text))
+whole_row edition text =
+    within_more (0 + bytes_in (row_of text)) (bytes_in (row_of text)) (taken_all (begun edition) (row_of text)) (omega arith)
+    (within_row 0 (begun edition) (row_of text) (begun_within edition))
+
+statements_in_bytes : (edition : Edition) (text : List ℕ) → length (tokens_of text).statements ≤ length text
 statements_in_bytes edition text =
-    let all : State = taken_all (begun edition) (row_of text) in
-    let within : IsWithin (bytes_in (row_of text)) all = within_more (0 + bytes_in (row_of text)) (bytes_in (row_of text)) all (omega arith) (within_row 0 (begun edition) (row_of text) (begun_within edition)) in
-    let few : length (scanned edition text).statements ≤ bytes_in (row_of text) = few_statements (bytes_in (row_of text)) edition text all (scanned edition text) within refl refl in
+    let few : length (scanned edition text).statements ≤ bytes_in (row_of text)
+    = few_statements (bytes_in (row_of text)) edition text (taken_all (begun edition) (row_of text)) (scanned edition text) (whole_row edition text) refl refl in
     let same = ap (λ t. length t.statements) (whole_tokens edition text (scanned edition text) (line_starts text) refl refl) in
     omega (arith, few, same, row_bytes text)
+
+tokens_in_bytes : (edition : Edition) (text : List ℕ) → length (tokens_of text).items ≤ length text
+tokens_in_bytes edition text =
+    let few : IsWithin (bytes_in (row_of text)) (scanned edition text)
+    = within_finished (bytes_in (row_of text)) (taken_all (begun edition) (row_of text)) (whole_row edition text) in
+    let same = ap (λ t. length t.items) (whole_tokens edition text (scanned edition text) (line_starts text) refl refl) in
+    omega (arith, few, same, row_bytes text)
+
+-- ---- its tree
+
+read_length : (tokens : Tokens) (ranges : List Range) (statements : List Statement) → AreRead tokens ranges statements → length statements ≡ length ranges
+read_length tokens [] [] are = refl
+read_length tokens [] (s ∷ statements) are = absurd are
+read_length tokens (r ∷ ranges) [] are = absurd are
+read_length tokens (r ∷ ranges) (s ∷ statements) are = ap (λ (n : ℕ). suc n) (read_length tokens ranges statements are.1)
+
+pub tree_statements : (edition : Edition) (text : List ℕ) (tree : FileTree) → IsTreeOf edition text tree → length tree.statements ≤ length text
+tree_statements edition text tree is =
+    let same : length tree.statements ≡ length (tokens_of text).statements = read_length (tokens_of text) (tokens_of text).statements tree.statements is.1.read in
+    omega (arith, same, statements_in_bytes edition text)
+
+pub tree_tokens : (edition : Edition) (text : List ℕ) (tree : FileTree) → IsTreeOf edition text tree → length tree.tokens.items ≤ length text
+tree_tokens edition text tree is =
+    let same : length tree.tokens.items ≡ length (tokens_of text).items = ap (λ (t : Tokens). length t.items) is.1.tokens_are in
+    omega (arith, same, tokens_in_bytes edition text)
