@@ -158,7 +158,7 @@ counted file (tree ∷ trees) (here, all) =
 pub extents_few : (files : List FileTree) → AreTrees files → length (extents files) < 2 ^ 32
 extents_few files are =
     let few : length (extents_from 0 files) ≤ sum_by (λ (tree : FileTree). length tree.statements) files = counted 0 files (each_of IsSomeTree files are.trees) in
-    let small : sum_by (λ (tree : FileTree). length tree.statements) files < 2 ^ 30 = are.small in
+    let small : sum_by (λ (tree : FileTree). length tree.statements) files < 2 ^ 28 = are.small in
     omega (arith, few, small)
 
 pub units_few : (files : List FileTree) → AreTrees files → length (scoping files) < 2 ^ 32

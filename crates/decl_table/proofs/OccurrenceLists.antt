@@ -45,7 +45,7 @@ one_within (tree ∷ files) (suc file) =
 pub count_few : (files : List FileTree) → AreTrees files → (file : ℕ) → count_in file files < 2 ^ 32
 count_few files are file =
     let within : count_in file files ≤ sum_by (λ (tree : FileTree). length tree.statements) files = one_within files file in
-    let small : sum_by (λ (tree : FileTree). length tree.statements) files < 2 ^ 30 = are.small in
+    let small : sum_by (λ (tree : FileTree). length tree.statements) files < 2 ^ 28 = are.small in
     omega (arith, within, small)
 
 pub file_told : (files : List FileTree) (file : ℕ) → flat_map (occurrences_at files file) (range_with_len 0 (count_in file files)) ≡ occurrences_of_file files file

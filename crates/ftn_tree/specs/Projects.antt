@@ -14,5 +14,5 @@ IsSomeTree tree = (edition : Edition) × (text : List ℕ) × (length text ≤ m
 pub record AreTrees (files : List FileTree) : Type 0 where
   pub few : length files ≤ most_files
   pub trees : All IsSomeTree files
-  pub small : sum_by (λ tree. length tree.statements) files < 2 ^ 30
-  pub short : sum_by (λ tree. length tree.tokens.items) files < 2 ^ 30
+  pub small : sum_by (λ tree. length tree.statements) files < 2 ^ 28
+  pub short : sum_by (λ tree. length tree.tokens.items) files < 2 ^ 28
