@@ -10,5 +10,5 @@ mod reading;
 mod writing;
 
 pub use fault::ItemFault;
-pub use reading::{item, items_are_read_back};
+pub use reading::{is_item_byte, item, items_are_read_back};
 pub use writing::line;

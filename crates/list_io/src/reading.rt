@@ -55,7 +55,8 @@ fn are_item_bytes(bytes: &[u8]) -> bool
     bytes.iter().all(|byte| is_item_byte(*byte))
 }
 
-fn is_item_byte(byte: u8) -> bool
+/// Whether the byte can be in an item (Fortran 90, 10.8.1): it is no blank, tab, CR or LF.
+pub fn is_item_byte(byte: u8) -> bool
     ensures { result ≡ is_item_byte_of byte }
 {
     !is_blank(byte) && byte != b'\r' && byte != b'\n'
