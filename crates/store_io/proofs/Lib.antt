@@ -1,4 +1,5 @@
 pub mod Placing
 pub mod Putting
 pub mod Reading
+pub mod Removing
 pub mod Taking

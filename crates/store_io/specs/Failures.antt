@@ -18,7 +18,7 @@ later_failure (Some first) call = if nat_le first call then Some (record { call 
 abbrev pub failure_at : List FailAt → Option ℕ → ℕ → Option FailAt
 failure_at fails from call = option_or (entry_of fails call) (later_failure from call)
 
--- how a read of that text fails, if it does: that a file is absent is answered at each call
+-- how a read or a removal of a file with that text fails, if it does: that a file is absent is answered at each call
 abbrev pub read_failure : Option (List ℕ) → Option FailAt → Option FailAt
 read_failure None failure = None
 read_failure (Some text) failure = failure

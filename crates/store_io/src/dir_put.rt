@@ -1,4 +1,4 @@
-//! Replacing a file of the folder of the system that the program runs in.
+//! Replacing and removing a file of the folder of the system that the program runs in.
 
 use crate::dir_list::path_of;
 use crate::failure::{Failure, Step};
@@ -44,6 +44,15 @@ pub(crate) fn put_here<R: Files>(
         return moved;
     }
     sync_folder::<R>(&folder).map_err(|reason| Failure::new(Step::SyncFolder, reason))
+}
+
+/// Takes the file of that name of the current folder away, and syncs the folder. Nothing is there to be taken away where
+/// the system finds no such file.
+pub(crate) fn remove_here<R: Files>(rt: &R, name: &FileName) -> Result<(), Failure> {
+    let path = path_of(name).map_err(|reason| Failure::new(Step::Remove, reason))?;
+    let folder = File::open(rt, ".").map_err(|reason| Failure::new(Step::OpenFolder, reason))?;
+    fs::remove_file(rt, path).map_err(|reason| Failure::new(Step::Remove, reason))?;
+    sync_folder::<R>(&folder).map_err(|reason| Failure::new(Step::SyncRemoval, reason))
 }
 
 // the permissions of the file that is to be replaced, if there is one; one that nobody may write isn't replaced

@@ -5,9 +5,9 @@ ghost use Rattle.std.specs.Prelude.{◌≡◌, ◌+◌, ◌^◌, ◌≤◌, None
 ghost use Rattle.store_io.specs.Counts.{Rose};
 
 use crate::dir_list::{list_here, path_of};
-use crate::dir_put::put_here;
+use crate::dir_put::{put_here, remove_here};
 use crate::failure::{Failure, LeftOut, Step};
-use crate::fault::{Failed, ListFault, ReadFault};
+use crate::fault::{Failed, ListFault, ReadFault, RemoveFault};
 use crate::store::Store;
 use ftn_base::{FileName, NoMemory};
 use std::alloc::Global;
@@ -122,6 +122,24 @@ impl<'a, R: Files> Store for DirStore<'a, R> {
             }
         }
     }
+
+    /// Takes the file away and syncs the folder. The path takes memory, and a want of it is an error like any other.
+    fn remove(&mut self, name: &FileName) -> Result<(), RemoveFault> {
+        match remove_here(self.rt, name) {
+            Ok(()) => Ok(()),
+            Err(failure) if is_absence(&failure) => Err(RemoveFault::Absent),
+            Err(failure) => {
+                let file = name.copy(self.alloc).ok();
+                self.fail(Failure { file, ..failure });
+                Err(RemoveFault::Failed)
+            }
+        }
+    }
+}
+
+// whether a removal failed since there was no such file
+fn is_absence(failure: &Failure) -> bool {
+    matches!(failure.step, Step::Remove) && failure.reason.kind() == ErrorKind::NotFound
 }
 
 fn first_bytes<R: Files>(rt: &R, alloc: Global, path: &str, limit: u64) -> io::Result<Vec<u8>> {

@@ -34,6 +34,12 @@ pub enum Step {
     /// Syncing the folder, where the new text is in its place.
     #[error("it has its new text, but the folder could not be synced")]
     SyncFolder,
+    /// Taking the file away.
+    #[error("it could not be removed")]
+    Remove,
+    /// Syncing the folder, where the file is taken away.
+    #[error("it is removed, but the folder could not be synced")]
+    SyncRemoval,
 }
 
 /// Why a call on the folder failed.

@@ -37,6 +37,17 @@ pub enum ReadFault {
     NoMemory,
 }
 
+/// Why a file could not be taken away.
+#[derive(Clone, Copy, Debug, Error)]
+pub enum RemoveFault {
+    /// The store failed, and its count of faults rose.
+    #[error("Failed")]
+    Failed,
+    /// The store has no file of that name.
+    #[error("Absent")]
+    Absent,
+}
+
 /// Why a sink took nothing.
 #[derive(Clone, Copy, Debug, Error)]
 pub enum SinkFault {

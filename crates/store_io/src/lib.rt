@@ -23,7 +23,7 @@ mod store_calls;
 
 pub use dir_store::DirStore;
 pub use failure::{Failure, LeftOut, LeftOutReason, Step};
-pub use fault::{Failed, ListFault, ReadFault, SinkFault};
+pub use fault::{Failed, ListFault, ReadFault, RemoveFault, SinkFault};
 pub use mem_sink::MemSink;
 pub use mem_source::MemSource;
 pub use mem_store::{MemStore, mem_store_never_fails};

@@ -1,13 +1,16 @@
 //! A store in memory.
 
+ghost use Rattle.std.specs.List.{position, remove};
 ghost use Rattle.std.specs.Option.{option_map};
-ghost use Rattle.std.specs.Prelude.{◌≡◌, ◌↔◌, ◌<◌, ◌≤◌, ◌+◌, ◌-◌, ℕ, List, [], ◌++◌, ◌∷◌, length, take, drop, slice_set, vec_len, vec_capacity, IfErr, IfNone, IfOk, IfSome, IsErr, IsErrOf, IsSome, OnOk, None, Some, if◌then◌else◌};
-ghost use Rattle.ftn_base.specs.Files.{IsInOrder, names_of, text_of, with_file};
+ghost use Rattle.std.specs.Ordering.{eq_by_cmp};
+ghost use Rattle.std.specs.Prelude.{◌≡◌, ◌≢◌, ◌⊎◌, ◌↔◌, ◌<◌, ◌≤◌, ◌+◌, ◌-◌, ℕ, List, [], ◌++◌, ◌∷◌, length, take, drop, slice_set, vec_len, vec_capacity, IfErr, IfNone, IfOk, IfSome, IsErr, IsErrOf, IsSome, OnOk, None, Some, if◌then◌else◌};
+ghost use Rattle.ftn_base.specs.Files.{IsInOrder, by_name, names_of, text_of, with_file};
 ghost use Rattle.store_io.specs.Counts.{Rose, next_count};
 ghost use Rattle.store_io.specs.Failures.{failure_at, faults_after, makes_change, read_failure};
 ghost use Rattle.store_io.specs.Memory.{Held};
+ghost use Rattle.store_io.specs.Told.{without_file};
 
-use crate::fault::{Failed, ListFault, ReadFault};
+use crate::fault::{Failed, ListFault, ReadFault, RemoveFault};
 use crate::store::Store;
 use crate::store_calls::{FailAt, StoreCalls};
 use ftn_base::{Bytes, FileName, NoMemory};
@@ -48,8 +51,8 @@ impl MemStore {
 
     /// The store of these files, whose names rise in byte order. It fails at the listed calls, where of several
     /// entries for one call the first counts, and at each call from `from` on, where there is such a number; a
-    /// call that isn't listed then makes no change. Calls of `list`, `read` and `replace` are counted from 1. A read
-    /// of a file that isn't there never fails. It takes no memory.
+    /// call that isn't listed then makes no change. Calls of `list`, `read`, `replace` and `remove` are counted from 1. A
+    /// read or a removal of a file that isn't there never fails. It takes no memory.
     pub fn failing(files: Vec<(FileName, Bytes)>, fails: Vec<FailAt>, from: Option<u64>) -> MemStore
         requires { IsInOrder files.items }
         ensures { result ≡ record { files = files.items; spare = vec_capacity files - vec_len files; fails = fails.items; from = from; calls = 0; faults = 0 } }
@@ -136,6 +139,37 @@ fn put(files: &mut Vec<(FileName, Bytes)>, name: FileName, text: Bytes)
     match place_of(files, &name) {
         Ok(at) => files[at] = (name, text),
         Err(at) => files.insert(at, (name, text)).unwrap(),
+    }
+}
+
+// the first place of that name
+fn first_place(files: &[(FileName, Bytes)], name: &FileName) -> Option<usize>
+    ensures place { result ≡ position (λ file. eq_by_cmp by_name name.now file.0) files.now }
+    ensures within { IfSome result (λ at. at < length files.now) }
+{
+    files.iter().position(|file| name.cmp(&file.0).is_eq())
+}
+
+// the place of the file of that name
+#[tactic(auto, using(crate::proofs::Removing::removed_in, crate::proofs::Removing::present_in, crate::proofs::Removing::absent_at))]
+fn place_in(files: &[(FileName, Bytes)], name: &FileName) -> Option<usize>
+    requires { IsInOrder files.now }
+    ensures within { IfSome result (λ at. at < length files.now) }
+    ensures found { IfSome result (λ at. remove files.now at ≡ without_file name.now files.now) }
+    ensures present { IsSome result → text_of files.now name.now ≢ None }
+    ensures absent { IfNone result (text_of files.now name.now ≡ None) }
+{
+    first_place(files, name)
+}
+
+// takes the file at that place away where a call that fails so, if it does, makes its change
+fn remove_at(files: &mut Vec<(FileName, Bytes)>, failure: Option<FailAt>, at: usize)
+    requires { at < length files.old.items }
+    ensures removed { files.new.items ≡ (if makes_change failure then remove files.old.items at else files.old.items) }
+    ensures room { (vec_len files.new ≤ vec_len files.old) × (vec_capacity files.old ≤ vec_capacity files.new) }
+{
+    if makes_change(failure) {
+        let _ = files.remove(at);
     }
 }
 
@@ -242,6 +276,33 @@ impl Store for MemStore {
         if failure.is_some() {
             self.calls.fail();
             return Err(Failed);
+        }
+        Ok(())
+    }
+
+    #[tactic(auto, using(crate::proofs::Removing::kept_in_order))]
+    fn remove(&mut self, name: &FileName) -> Result<(), RemoveFault>
+        ensures files { IsErrOf result RemoveFault.Absent ⊎ (self.new.files ≡ (if makes_change (failure_at self.old.fails self.old.from self.new.calls) then without_file name.now self.old.files else self.old.files)) }
+        ensures absent { IsErrOf result RemoveFault.Absent ↔ (text_of self.old.files name.now ≡ None) }
+        ensures same { IsErrOf result RemoveFault.Absent → self.new.files ≡ self.old.files }
+        ensures listed { IsErrOf result RemoveFault.Failed ↔ IsSome (read_failure (text_of self.old.files name.now) (failure_at self.old.fails self.old.from self.new.calls)) }
+        ensures removed { OnOk result (self.new.files ≡ without_file name.now self.old.files) }
+        ensures spare { self.old.spare ≤ self.new.spare }
+        ensures fails { self.new.fails ≡ self.old.fails }
+        ensures from { self.new.from ≡ self.old.from }
+        ensures calls { self.new.calls ≡ next_count self.old.calls }
+        ensures faults { self.new.faults ≡ faults_after (read_failure (text_of self.old.files name.now) (failure_at self.old.fails self.old.from self.new.calls)) self.old.faults }
+        ensures later { self.old.faults ≤ self.new.faults }
+        ensures failed { IsErrOf result RemoveFault.Failed → Rose self.old.faults self.new.faults }
+    {
+        let failure = self.calls.next();
+        let Some(at) = place_in(&self.files, name) else {
+            return Err(RemoveFault::Absent);
+        };
+        remove_at(&mut self.files, failure, at);
+        if failure.is_some() {
+            self.calls.fail();
+            return Err(RemoveFault::Failed);
         }
         Ok(())
     }

@@ -4,9 +4,9 @@ ghost use Rattle.std.specs.Option.{option_map};
 ghost use Rattle.std.specs.Prelude.{◌≡◌, ◌↔◌, ℕ, ◌+◌, ◌≤◌, List, length, take, Option, IfOk, IfSome, IsErr, IsErrOf, OnErr, OnOk};
 ghost use Rattle.ftn_base.specs.Files.{File, IsInOrder, names_of, text_of, with_file};
 ghost use Rattle.store_io.specs.Counts.{Rose};
-ghost use Rattle.store_io.specs.Told.{MayPut};
+ghost use Rattle.store_io.specs.Told.{MayPut, MayRemove, without_file};
 
-use crate::fault::{Failed, ListFault, ReadFault};
+use crate::fault::{Failed, ListFault, ReadFault, RemoveFault};
 use ftn_base::{FileName, NoMemory};
 
 /// A folder of files. A store may tell its files, and then its calls speak of them; one that doesn't tell
@@ -57,4 +57,15 @@ pub trait Store {
         ensures spare { spare self.old ≤ spare self.new + 1 }
         ensures later { faults self.old ≤ faults self.new }
         ensures failed { IsErr result → Rose (faults self.old) (faults self.new) };
+
+    /// Takes the file of that name away. It takes no memory. It fails where the store does, and then the file is there as it
+    /// was or it is taken away, or where there is no such file. No other file changes.
+    fn remove(&mut self, name: &FileName) -> Result<(), RemoveFault>
+        ensures removed { OnOk result (files self.new ≡ option_map (without_file name.now) (files self.old)) }
+        ensures kept { IsErrOf result RemoveFault.Failed → MayRemove name.now (files self.old) (files self.new) }
+        ensures absent { IfSome (files self.old) (λ told. IsErrOf result RemoveFault.Absent ↔ (text_of told name.now ≡ None)) }
+        ensures same { IsErrOf result RemoveFault.Absent → files self.new ≡ files self.old }
+        ensures spare { spare self.old ≤ spare self.new }
+        ensures later { faults self.old ≤ faults self.new }
+        ensures failed { IsErrOf result RemoveFault.Failed → Rose (faults self.old) (faults self.new) };
 }

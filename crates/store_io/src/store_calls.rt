@@ -7,7 +7,7 @@ ghost use Rattle.store_io.specs.Failures.{entry_of, failure_at};
 /// A call of a store that is to fail.
 #[derive(Clone, Copy)]
 pub struct FailAt {
-    /// The number of the call. Calls of `list`, `read` and `replace` are counted from 1.
+    /// The number of the call. Calls of `list`, `read`, `replace` and `remove` are counted from 1.
     pub call: u64,
     /// Whether the call makes its change before it fails.
     pub done: bool,
