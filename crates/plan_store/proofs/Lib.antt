@@ -1,0 +1,5 @@
+pub mod Lookups
+pub mod Amid
+pub mod PlanPuts
+pub mod PlanFound
+pub mod Recovered

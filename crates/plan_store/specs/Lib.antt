@@ -1,0 +1,4 @@
+pub mod Middle
+pub mod Found
+pub mod Recoveries
+pub mod steps

@@ -1,0 +1,2 @@
+-- Definitions that serve proofs alone.
+pub mod Puts
