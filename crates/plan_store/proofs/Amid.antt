@@ -1,5 +1,5 @@
 -- Files amid a change stay so while files of its plan are put, and are the new ones once all are.
-use Rattle.std.proofs.Common.{◌≡◌, ◌≢◌, ℕ, Bool, true, false, cond, ◌&&◌, List, [], ◌∷◌, ◌++◌, Option, Some, None, refl, sym, ap, ◌∙◌, subst, inl, inr, true≢false}
+use Rattle.std.proofs.Common.{◌≡◌, ◌≢◌, ℕ, Bool, true, false, cond, List, [], ◌∷◌, ◌++◌, Option, Some, None, refl, sym, ap, ◌∙◌, subst, inl, inr, true≢false}
 use Rattle.std.specs.Prelude.{◌⊎◌}
 use Rattle.std.specs.List.{list_all}
 use Rattle.std.specs.Option.{option_map, option_or}
@@ -7,11 +7,10 @@ use Rattle.std.proofs.lemmas.Bool.{and_parts}
 use Rattle.ftn_base.specs.Files.{File, IsInOrder, is_source, text_of, with_file}
 use Rattle.ftn_base.specs.Names.{is_file_name}
 use Rattle.plan_file.specs.Plans.{IsPlan, is_planned, plan_text}
-use Rattle.store_io.specs.Told.{without_file}
 use Rattle.store_io.proofs.Placing.{stays_in_order}
 use Rattle.store_io.proofs.Removing.{kept_in_order}
 use Rattle.plan_store.specs.Middle.{HasNoPlan, IsAmid, IsChange, IsMiddle, plan_name, with_files, with_plan}
-use Rattle.plan_store.specs.steps.Puts.{Finishes, PutsFront, PutsPlan, finished}
+use Rattle.plan_store.specs.steps.Puts.{Finishes, PutsPlan, finished}
 use Rattle.plan_store.proofs.Lookups.{all_lookup, front_in_order, front_lookup, gone_elsewhere, gone_here, is_named, one_name, put_elsewhere, put_here, same_files, same_or_other}
 
 -- ---- no plan holds the plan file
@@ -127,10 +126,10 @@ module _ (files plan : List File) (change : IsChange files plan) where
     pub done_told : (before after : Option (List File)) → before ≡ Some now → after ≡ option_map (finished plan) before → after ≡ Some (with_files plan files)
     done_told before after told done = done ∙ ap (option_map (finished plan)) told ∙ ap Some (amid_finished now ordered amid)
 
-    pub part_told : (before after : Option (List File)) → before ≡ Some now → Finishes plan before after → (later : List File) × (after ≡ Some later) × IsMiddle files plan later
+    pub part_told : (before after : Option (List File)) → before ≡ Some now → Finishes plan before after → (later : List File) × (after ≡ Some later) × (IsAmid files plan later ⊎ (later ≡ with_files plan files))
     part_told before after told (inl puts) =
-        (with_files puts.0 now, puts.3 ∙ ap (option_map (with_files puts.0)) told, inr (inl (amid_front now puts.0 puts.1 amid puts.2)))
-    part_told before after told (inr done) = (with_files plan files, done_told before after told done, inr (inr refl))
+        (with_files puts.0 now, puts.3 ∙ ap (option_map (with_files puts.0)) told, inl (amid_front now puts.0 puts.1 amid puts.2))
+    part_told before after told (inr done) = (with_files plan files, done_told before after told done, inr refl)
 
   pub put_done : (before after : Option (List File)) → before ≡ Some files → after ≡ option_map (finished plan) (option_map (with_plan (plan_text plan)) before) → after ≡ Some (with_files plan files)
   put_done before after told done =
@@ -140,5 +139,6 @@ module _ (files plan : List File) (change : IsChange files plan) where
   pub put_part : (before after : Option (List File)) → before ≡ Some files → PutsPlan (plan_text plan) plan before after → (later : List File) × (after ≡ Some later) × IsMiddle files plan later
   put_part before after told (inl same) = (files, same ∙ told, inl refl)
   put_part before after told (inr puts) =
-      part_told (with_plan (plan_text plan) files) (put_in_order plan_name (plan_text plan) files change.ordered) amid_first
-      (option_map (with_plan (plan_text plan)) before) after (ap (option_map (with_plan (plan_text plan))) told) puts
+      let part = part_told (with_plan (plan_text plan) files) (put_in_order plan_name (plan_text plan) files change.ordered) amid_first
+      (option_map (with_plan (plan_text plan)) before) after (ap (option_map (with_plan (plan_text plan))) told) puts in
+      (part.0, part.1, inr part.2)

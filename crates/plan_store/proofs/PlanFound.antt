@@ -1,5 +1,5 @@
 -- What is found of a plan file.
-use Rattle.std.proofs.Common.{◌≡◌, ℕ, ◌+◌, ◌≤◌, ◌<◌, Bool, true, false, List, length, take, min, Option, Some, None, is_some, refl, sym, ap, ◌∙◌, arith, true≢false}
+use Rattle.std.proofs.Common.{◌≡◌, ℕ, ◌+◌, ◌<◌, false, List, length, take, min, Option, Some, None, is_some, refl, sym, ap, ◌∙◌, arith, true≢false}
 use Rattle.std.specs.Prelude.{IfSome}
 use Rattle.std.specs.List.{list_any}
 use Rattle.std.specs.Option.{option_map}
@@ -8,7 +8,7 @@ use Rattle.std.specs.FinMap.Entries.{is_some-find}
 use Rattle.std.proofs.lemmas.List.{length-take}
 use Rattle.ftn_base.specs.Files.{File, IsInOrder, by_name, names_of, text_of}
 use Rattle.store_io.proofs.Reading.{whole_read}
-use Rattle.plan_store.specs.Found.{HasPlanText, IsFound, most_plan_bytes}
+use Rattle.plan_store.specs.Found.{IsFound, most_plan_bytes}
 use Rattle.plan_store.specs.Middle.{HasNoPlan, plan_name}
 use Rattle.plan_store.specs.declared.finding.Found.{Found}
 use Rattle.plan_store.specs.declared.finding.Found.TheVariants as found

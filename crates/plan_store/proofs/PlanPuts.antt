@@ -1,6 +1,6 @@
 -- Putting files of a plan one after another.
-use Rattle.std.proofs.Common.{◌≡◌, ℕ, ◌+◌, ◌≤◌, Bool, true, false, cond, not, List, [], ◌∷◌, ◌++◌, length, drop, remove, slice_get, Option, Some, None, refl, sym, ap, ◌∙◌, inl, inr, arith, append_assoc, append-nil}
-use Rattle.std.specs.Prelude.{◌⊎◌, IfSome}
+use Rattle.std.proofs.Common.{◌≡◌, ℕ, ◌+◌, ◌≤◌, Bool, true, false, cond, not, List, [], ◌∷◌, ◌++◌, length, remove, slice_get, Option, Some, None, refl, sym, ap, ◌∙◌, inl, inr, arith, append_assoc, append-nil}
+use Rattle.std.specs.Prelude.{◌↔◌, IfSome, OnErr, Result, Ok, Err}
 use Rattle.std.specs.Option.{option_map}
 use Rattle.std.specs.Ordering.{eq_by_cmp}
 use Rattle.std.proofs.lemmas.List.Sums.{fold-append}
@@ -70,9 +70,9 @@ without_none : (name : List ℕ) (files : List File) → text_of files name ≡ 
 without_none name [] none = refl
 without_none name (file ∷ files) none = kept_file (eq_by_cmp by_name name file.0) file files (without_file name files) (text_of files name) none (without_none name files)
 
-pub gone_already : (name : List ℕ) (before now : Option (List File)) → IfSome before (λ files. text_of files name ≡ None) → now ≡ before → now ≡ option_map (without_file name) before
-gone_already name None now none same = same
-gone_already name (Some files) now none same = same ∙ ap Some (sym (without_none name files none))
+pub gone_already : {A : Type 0} (name : List ℕ) (before now : Option (List File)) → IfSome before (λ files. A ↔ (text_of files name ≡ None)) → A → now ≡ before → now ≡ option_map (without_file name) before
+gone_already name None now absent is same = same
+gone_already name (Some files) now absent is same = same ∙ ap Some (sym (without_none name files (absent.0 is)))
 
 -- ---- the plan's end
 
@@ -90,3 +90,8 @@ finish_part plan before between after put (inr gone) = inr (finish_done plan bef
 pub plan_part : (text : List ℕ) (plan : List File) (before after : Option (List File)) → MayPut plan_name text before after → PutsPlan text plan before after
 plan_part text plan before after (inl same) = inl same
 plan_part text plan before after (inr put) = inr (inl ([], plan, refl, put ∙ start_put (option_map (with_plan text) before)))
+
+-- what holds holds of an answer that is a fault
+pub on_err : {A E P : Type 0} (result : Result A E) → P → OnErr result P
+on_err (Ok x) holds = tt
+on_err (Err fault) holds = holds

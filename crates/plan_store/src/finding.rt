@@ -5,7 +5,7 @@ ghost use Rattle.std.specs.Ordering.{eq_by_cmp};
 ghost use Rattle.std.specs.Prelude.{◌≡◌, ◌≤◌, IfOk, IfSome, IsErrOf, OnOk};
 ghost use Rattle.ftn_base.specs.Files.{IsInOrder, by_name};
 ghost use Rattle.store_io.specs.Counts.{Rose};
-ghost use Rattle.plan_store.specs.Found.{IsFound};
+ghost use Rattle.plan_store.specs.Found.{HoldsValid, IsFound};
 ghost use Rattle.plan_store.specs.Middle as spec;
 ghost use Rattle.plan_store.specs.steps.Puts.{IsFoundIn};
 
@@ -54,6 +54,7 @@ pub fn find_plan<S: Store>(
 ) -> Result<Found, FindFault>
     requires { plan.now ≡ spec.plan_name }
     ensures found { IfOk result (λ found. IfSome (S.files store.old) (λ files. IsFound files found)) }
+    ensures valid { IfOk result HoldsValid }
     ensures order { OnOk result (IfSome (S.files store.old) IsInOrder) }
     ensures same { S.files store.new ≡ S.files store.old }
     ensures later { S.faults store.old ≤ S.faults store.new }
@@ -71,13 +72,10 @@ pub fn find_plan<S: Store>(
 }
 
 /// What the plan file has.
-fn read_found<S: Store>(
-    alloc: Global,
-    store: &mut S,
-    plan: &FileName,
-) -> Result<Found, FindFault>
+fn read_found<S: Store>(alloc: Global, store: &mut S, plan: &FileName) -> Result<Found, FindFault>
     requires { plan.now ≡ spec.plan_name }
     ensures found { IfOk result (λ found. IfSome (S.files store.old) (λ files. IsFound files found)) }
+    ensures valid { IfOk result HoldsValid }
     ensures same { S.files store.new ≡ S.files store.old }
     ensures later { S.faults store.old ≤ S.faults store.new }
     ensures failed { IsErrOf result FindFault.StoreFailed → Rose (S.faults store.old) (S.faults store.new) }
@@ -95,7 +93,8 @@ fn read_found<S: Store>(
 
 /// What a plan file has whose first bytes are these, one more than may be read at the most.
 fn found_in(alloc: Global, text: &[u8]) -> Result<Found, NoMemory>
-    ensures { IfOk result (IsFoundIn text.now) }
+    ensures found { IfOk result (IsFoundIn text.now) }
+    ensures valid { IfOk result HoldsValid }
 {
     if text.len() > MOST_PLAN_BYTES as usize {
         return Ok(Found::TooLong);

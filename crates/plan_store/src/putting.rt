@@ -32,10 +32,7 @@ pub fn plan_name(alloc: Global) -> Result<FileName, NoMemory>
 }
 
 // puts the files, one after another; each replace has its place
-fn put_files<S: Store>(
-    store: &mut S,
-    files: Items<(FileName, Bytes)>,
-) -> Result<(), Failed>
+fn put_files<S: Store>(store: &mut S, files: Items<(FileName, Bytes)>) -> Result<(), Failed>
     requires { length files ≤ S.spare store.old }
     ensures put { OnOk result (S.files store.new ≡ option_map (with_files files) (S.files store.old)) }
     ensures part { OnErr result (PutsFront files (S.files store.old) (S.files store.new)) }
@@ -58,7 +55,8 @@ fn take_away<S: Store>(store: &mut S, name: &FileName) -> Result<(), Failed>
     ensures failed { IsErr result → Rose (S.faults store.old) (S.faults store.new) }
 {
     match store.remove(name) {
-        Ok(()) | Err(RemoveFault::Absent) => Ok(()),
+        Ok(()) => Ok(()),
+        Err(RemoveFault::Absent) => Ok(()),
         Err(RemoveFault::Failed) => Err(Failed),
     }
 }
