@@ -1,0 +1,59 @@
+mod Positions
+mod ToldNames
+mod Units
+pub mod Members
+pub mod Natural
+pub mod Rounds
+pub mod Leading
+pub mod Marks
+pub mod Listed
+pub mod OwnOccurrences
+pub mod OwnKeys
+pub mod PlacedOrder
+pub mod KeyNumbers
+pub mod FoundUnits
+pub mod DeclaredNames
+pub mod Denoting
+pub mod NumberedMeanings
+mod Turns
+mod UsedModules
+pub mod ModuleUnits
+pub mod NamedUnits
+pub mod BlockNames
+pub mod UnitReads
+pub mod DistinctNames
+pub mod FirstsKept
+pub mod StatementTokens
+pub mod ModuleTurns
+pub mod CycleFindings
+pub mod UseTurns
+pub mod LeastModule
+pub mod Owning
+pub mod Spelling
+pub mod FindingOrder
+pub mod FindingTurns
+pub mod ItemSources
+pub mod ItemFindings
+pub mod DenotedKeys
+pub mod OccurrenceMeanings
+pub mod AllDenoted
+pub mod EntityPlaces
+pub mod EntityNumbers
+pub mod EntityKeys
+pub mod LetterDrafts
+pub mod IntrinsicDrafts
+pub mod NamedEntities
+pub mod References
+pub mod FinalNumbers
+pub mod ReferenceMeanings
+pub mod Totals
+pub mod StatementTotals
+pub mod NamesFew
+pub mod EntitiesFew
+pub mod Small
+pub mod UsedNames
+pub mod BeginPlaces
+pub mod LetterTypes
+pub mod SaidNames
+pub mod TypeFindings
+pub mod FirstFaults

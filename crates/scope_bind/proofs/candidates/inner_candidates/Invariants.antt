@@ -1,0 +1,7 @@
+use Rattle.std.proofs.Common.{◌≡◌, map, take}
+use Rattle.ftn_tree.specs.Extents.{scoping}
+use Rattle.scope_bind.specs.steps.Globals.{inner_candidate}
+use Rattle.scope_bind.proofs.candidates.inner_candidates.Given as goal
+
+abbrev pub invariant-loop-at : goal.invariant-loop-at
+invariant-loop-at l = l.made.items ≡ map (inner_candidate l.files) (take l.at (scoping l.files))

@@ -1,0 +1,7 @@
+use Rattle.std.proofs.Common.{◌≡◌, ◌++◌, take}
+use Rattle.std.specs.List.{flat_map}
+use Rattle.ftn_tree.specs.Bindings.{only_tokens}
+use Rattle.scope_bind.proofs.items.push_only.Given as goal
+
+abbrev pub invariant-loop-one : goal.invariant-loop-one
+invariant-loop-one l = l.found.items ≡ l.initial.found.items ++ flat_map only_tokens (take l.one-index l.items)

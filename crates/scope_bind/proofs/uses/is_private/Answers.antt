@@ -1,0 +1,21 @@
+use Rattle.std.proofs.Common.{ap, ap₂, ◌∙◌}
+use Rattle.std.specs.List.{list_any}
+use Rattle.ftn_tree.specs.declared.table.Extent.{Extent}
+use Rattle.ftn_tree.specs.Extents.{layer_at}
+use Rattle.ftn_tree.specs.Meanings.{is_private_default}
+use Rattle.ftn_tree.specs.Scopes.{own_statements}
+use Rattle.decl_table.specs.steps.Following.{own_by}
+use Rattle.decl_table.proofs.OwnStatements.{own_are}
+use Rattle.scope_bind.specs.steps.Globals.{unit_at}
+use Rattle.scope_bind.proofs.Units.{unit_there}
+use Rattle.scope_bind.proofs.uses.is_private.Goals as goal
+
+pub returns : goal.returns
+returns c =
+    let files = c.args.known.now.files.now in
+    let scope = c.args.scope in
+    let e = unit_at files scope in
+    let own = c.deref-2.ensures.value ∙ c.in_ok-own.ensures ∙ ap₂ (own_by scope) c.unit-unit.ensures (c.deref.ensures.value ∙ c.requires.known.scoping.rows)
+    ∙ own_are files c.requires.known.trees scope e (unit_there files scope c.requires.within) in
+    c.any_private.ensures ∙ ap (list_any (λ statement. is_private_default (layer_at files c.unit-unit.result.file statement))) own
+    ∙ ap (λ (u : Extent). list_any (λ statement. is_private_default (layer_at files u.file statement)) (own_statements files e)) c.unit-unit.ensures

@@ -1,0 +1,21 @@
+-- Definitions that serve proofs of the code alone; no public clause cites them.
+pub mod Small
+pub mod Index
+pub mod Told
+pub mod Globals
+pub mod Numbering
+pub mod Known
+pub mod Declared
+pub mod Meaning
+pub mod Owned
+pub mod Exporting
+pub mod Uses
+pub mod Cycles
+pub mod UseFaults
+pub mod Findings
+pub mod Items
+pub mod ItemFaults
+pub mod Occurrences
+pub mod NameFaults
+pub mod Entities
+pub mod Binding
