@@ -16,6 +16,7 @@ use decl_table::declare;
 use free_scan::{ScanFault, scan};
 use ftn_base::{Bytes, Edition, Fault, FileName, Range, Span, Steps};
 use ftn_tree::{FileTree, TableFault};
+use scope_bind::bind;
 use std::alloc::Global;
 use unit_parse::{ParseFault, parse};
 
@@ -34,13 +35,14 @@ pub fn sound_trees(
     Ok(trees)
 }
 
-/// Takes the stages that come after the reading of files, as far as they are built, one after another: declarations.
+/// Takes the stages that come after the reading of files, as far as they are built, one after another: declarations; modules and names.
 fn take_stages(alloc: Global, trees: &[FileTree]) -> Result<(), TableFault>
     requires { AreTrees trees.now }
     ensures sound { IsOk result → built_fault trees.now ≡ None }
     ensures fault { (f : Fault) → result ≡ Err (table_fault.Project f) → built_fault trees.now ≡ Some f }
 {
-    let _tables = declare(alloc, trees)?;
+    let tables = declare(alloc, trees)?;
+    let _bound = bind(alloc, trees, tables)?;
     Ok(())
 }
 
