@@ -1,5 +1,5 @@
 -- Executable statements and constructs of resolved programs as plain trees (Fortran 90, 8.1).
-use Rattle.std.specs.Prelude.{ℕ, ℤ, List}
+use Rattle.std.specs.Prelude.{ℕ, ℤ, List, [], ◌∷◌, map}
 use Rattle.std.specs.Option.{option_map}
 use Rattle.ftn_tree.specs.declared.value.Value.{Value}
 use Rattle.core_prog.specs.declared.site.Site.{Site}
@@ -11,10 +11,9 @@ use Rattle.core_prog.specs.declared.stmt.CaseValues.{CaseValues}
 use Rattle.core_prog.specs.declared.stmt.Action.{Action as ActionOf}
 use Rattle.core_prog.specs.declared.stmt.Action.TheVariants as acts
 use Rattle.core_prog.specs.declared.stmt.Stmt.{Stmt, fold-Stmt}
-use Rattle.core_prog.specs.declared.stmt.Stmts.{Stmts, fold-Stmts}
-use Rattle.core_prog.specs.declared.stmt.Arms.{Arms as ArmsOf, fold-Arms}
-use Rattle.core_prog.specs.declared.stmt.Cases.{Cases as CasesOf, fold-Cases}
-use Rattle.core_prog.specs.declared.stmt.Arms.TheOpen.{Arms-F, Cases-F, Stmt-F, Stmts-F}
+use Rattle.core_prog.specs.declared.stmt.Arm.{Arm, fold-Arm}
+use Rattle.core_prog.specs.declared.stmt.Case.{Case, fold-Case}
+use Rattle.core_prog.specs.declared.stmt.Stmt.TheOpen.{Arm-F, Case-F, Stmt-F}
 use Rattle.core_prog.specs.Terms.{Term, Passed, Designator, Bound, bound_of, term_of, passed_of, designator_of}
 
 -- items of output: scalars, whole arrays, whole constant arrays
@@ -95,34 +94,47 @@ action_of acts.Continue = continue
 action_of (acts.Print items) = print (written_of items)
 action_of (acts.Read at items) = read at (wanted_of items)
 
-abbrev pub statement_step : Stmt-F Arms Cases Statement Block → Statement
+abbrev pub block_in : List Statement → Block
+block_in [] = empty
+block_in (first ∷ rest) = row first (block_in rest)
+
+abbrev pub arms_in : List (Term × Block) → Arms
+arms_in [] = no_arms
+arms_in (first ∷ rest) = arm first.0 first.1 (arms_in rest)
+
+abbrev pub cases_in : List (List CaseValues × Block) → Cases
+cases_in [] = no_cases
+cases_in (first ∷ rest) = case first.0 first.1 (cases_in rest)
+
+abbrev pub statement_step : Stmt-F Statement (Term × Block) (List CaseValues × Block) → Statement
 statement_step (Stmt-F.Action action) = does (action_of action)
-statement_step (Stmt-F.If arms otherwise) = choose arms otherwise
-statement_step (Stmt-F.Select selector cases otherwise) = select (term_of selector) cases otherwise
-statement_step (Stmt-F.Count at number from to by body) = count at number (term_of from) (term_of to) (bound_of (option_map term_of by)) body
-statement_step (Stmt-F.While condition body) = while (term_of condition) body
-statement_step (Stmt-F.Forever body) = forever body
+statement_step (Stmt-F.If arms otherwise) = choose (arms_in arms) (block_in otherwise)
+statement_step (Stmt-F.Select selector cases otherwise) = select (term_of selector) (cases_in cases) (block_in otherwise)
+statement_step (Stmt-F.Count at number from to by body) = count at number (term_of from) (term_of to) (bound_of (option_map term_of by)) (block_in body)
+statement_step (Stmt-F.While condition body) = while (term_of condition) (block_in body)
+statement_step (Stmt-F.Forever body) = forever (block_in body)
 
-abbrev pub block_step : Stmts-F Arms Cases Statement Block → Block
-block_step Stmts-F.End = empty
-block_step (Stmts-F.More first rest) = row first rest
+abbrev pub arm_step : Arm-F Statement (Term × Block) (List CaseValues × Block) → Term × Block
+arm_step here = (term_of here.condition, block_in here.body)
 
-abbrev pub arms_step : Arms-F Arms Cases Statement Block → Arms
-arms_step Arms-F.NoArms = no_arms
-arms_step (Arms-F.Arm condition body rest) = arm (term_of condition) body rest
-
-abbrev pub cases_step : Cases-F Arms Cases Statement Block → Cases
-cases_step Cases-F.NoCases = no_cases
-cases_step (Cases-F.Case values body rest) = case values body rest
+abbrev pub case_step : Case-F Statement (Term × Block) (List CaseValues × Block) → List CaseValues × Block
+case_step here = (here.values, block_in here.body)
 
 abbrev pub statement_of : Stmt → Statement
-statement_of = fold-Stmt Arms Cases Statement Block arms_step cases_step statement_step block_step
+statement_of = fold-Stmt Statement (Term × Block) (List CaseValues × Block) statement_step arm_step case_step
 
-abbrev pub block_of : Stmts → Block
-block_of = fold-Stmts Arms Cases Statement Block arms_step cases_step statement_step block_step
+abbrev pub arm_of : Arm → Term × Block
+arm_of = fold-Arm Statement (Term × Block) (List CaseValues × Block) statement_step arm_step case_step
 
-abbrev pub arms_of : ArmsOf → Arms
-arms_of = fold-Arms Arms Cases Statement Block arms_step cases_step statement_step block_step
+abbrev pub case_of : Case → List CaseValues × Block
+case_of = fold-Case Statement (Term × Block) (List CaseValues × Block) statement_step arm_step case_step
 
-abbrev pub cases_of : CasesOf → Cases
-cases_of = fold-Cases Arms Cases Statement Block arms_step cases_step statement_step block_step
+-- a block, the arms of an IF construct, the cases of a SELECT construct
+abbrev pub block_of : List Stmt → Block
+block_of statements = block_in (map statement_of statements)
+
+abbrev pub arms_of : List Arm → Arms
+arms_of arms = arms_in (map arm_of arms)
+
+abbrev pub cases_of : List Case → Cases
+cases_of cases = cases_in (map case_of cases)

@@ -1,6 +1,6 @@
 -- The resolved program of a project without a fault (Fortran 90, 2.2): its executable statements with each name replaced by what it denotes,
 -- and the variables, procedures and areas that they work on.
-use Rattle.std.specs.Prelude.{ℕ, ◌==◌, Bool, false, List, [], ◌∷◌, map, flat_map, slice_get}
+use Rattle.std.specs.Prelude.{ℕ, ◌==◌, Bool, false, if◌then◌else◌, List, [], ◌∷◌, map, flat_map, slice_get, Option, None}
 use Rattle.std.specs.List.{find}
 use Rattle.std.specs.Option.{option_map_or, option_and_then}
 use Rattle.ftn_tree.specs.declared.table.Entity.{Entity}
@@ -12,7 +12,7 @@ use Rattle.ftn_tree.specs.declared.unit.Unit.TheOpen.{Unit-F}
 use Rattle.core_prog.specs.declared.storage.Variable.{Variable}
 use Rattle.core_prog.specs.Actions.{Block, empty}
 use Rattle.core_prog.specs.Programs.{Program, Procedure}
-use Rattle.core_prog.specs.Naming.{Known, entity_at, scope_at, known_numbers, variable_entities, procedure_entities, all_numbers, variable_number, scope_opened, dummies_in, result_in, is_main}
+use Rattle.core_prog.specs.Naming.{Known, entity_at, scope_at, known_numbers, rank_of, variable_entities, procedure_entities, all_numbers, variable_number, scope_opened, dummies_in, result_in, is_main}
 use Rattle.core_prog.specs.ResolvedActions.{actions_of}
 use Rattle.core_prog.specs.ResolvedStorage.{variable_of, areas_of}
 
@@ -35,10 +35,14 @@ module _ (known : Known) where
   abbrev pub body_of : ℕ → Block
   body_of scope = option_map_or (λ (s : Scope). actions_of known s.unit.file scope (blocks_at s.unit.file s.unit.statement)) (scope_at known scope) empty
 
+  -- the result of a function, where it is a scalar: an array is no value of a reference
+  abbrev pub scalar_result : ℕ → Option ℕ
+  scalar_result number = option_and_then (λ result. if rank_of known result == 0 then variable_number known result else None) (result_in known number)
+
   abbrev pub procedure_of : ℕ → Procedure
   procedure_of number = record {
     dummies = known_numbers (map (variable_number known) (dummies_in known (scope_opened known number)));
-    result = option_and_then (variable_number known) (result_in known number);
+    result = scalar_result number;
     body = body_of (scope_opened known number);
   }
 

@@ -25,13 +25,9 @@ use Rattle.core_prog.specs.States.{Ran, Went, Ended, ends}
 use Rattle.core_prog.specs.Programs.{Program}
 use Rattle.core_prog.specs.Values.{value_of}
 use Rattle.core_prog.specs.Terms.{Term, designator, named, none, no_section, no_bound, bound, Bound}
-use Rattle.core_prog.specs.Actions.{Written, no_written, scalar, array, constants, Wanted, no_wanted, one, each, Action, assign, fill, call, exit, cycle, return, stop, continue, print, read, Statement, does, choose, select, count, while, forever, Block, empty, row, Arms, no_arms, arm, Cases, no_cases, case}
+use Rattle.core_prog.specs.Actions.{Written, no_written, scalar, array, constants, Wanted, no_wanted, one, each, Action, assign, fill, call, exit, cycle, return, stop, continue, print, read, Statement, does, choose, select, count, while, forever, Block, empty, block_in, Arms, no_arms, arm, Cases, no_cases, case}
 use Rattle.core_prog.specs.Naming.{Known, site, denoted, meant_by, variable_entities, rank_of, variable_number, procedure_number}
 use Rattle.core_prog.specs.ResolvedTerms.{Found, of_variable, of_constant, as_term, as_passed, arrays_of, resolved_expr, resolved_term}
-
-abbrev pub block_of : List Statement → Block
-block_of [] = empty
-block_of (first ∷ rest) = row first (block_of rest)
 
 -- ---- constant expressions (7.1.6.1), which need no memory: as many steps as a statement has tokens are enough
 
@@ -144,7 +140,7 @@ module _ (known : Known) (file scope : ℕ) where
   simple_at first loops other = []
 
   abbrev pub statements_at : ℕ → Around → Option FormLayer → List Statement
-  statements_at first loops (Some (Form-F.If condition at inner)) = choose (arm (term condition) (block_of (map does (simple_at at loops (out-Form inner)))) no_arms) empty ∷ []
+  statements_at first loops (Some (Form-F.If condition at inner)) = choose (arm (term condition) (block_in (map does (simple_at at loops (out-Form inner)))) no_arms) empty ∷ []
   statements_at first loops (Some form) = map does (simple_at first loops form)
   statements_at first loops None = []
 
@@ -157,7 +153,7 @@ module _ (known : Known) (file scope : ℕ) where
 
   abbrev pub arms_of : List ArmFound → Arms
   arms_of [] = no_arms
-  arms_of (a ∷ rest) = arm_with (layer a.head) (block_of a.body) (arms_of rest)
+  arms_of (a ∷ rest) = arm_with (layer a.head) (block_in a.body) (arms_of rest)
 
   abbrev pub is_last : Option FormLayer → Bool
   is_last (Some Form-F.Else) = true
@@ -166,7 +162,7 @@ module _ (known : Known) (file scope : ℕ) where
 
   -- the block of ELSE or of CASE DEFAULT
   abbrev pub otherwise_of : List ArmFound → Block
-  otherwise_of arms = block_of (flat_map (λ (a : ArmFound). a.body) (filter (λ (a : ArmFound). is_last (layer a.head)) arms))
+  otherwise_of arms = block_in (flat_map (λ (a : ArmFound). a.body) (filter (λ (a : ArmFound). is_last (layer a.head)) arms))
 
   abbrev pub values_of : CaseRange → CaseValues
   values_of (range.One e) = record { low = constant_whole e; high = constant_whole e }
@@ -180,10 +176,10 @@ module _ (known : Known) (file scope : ℕ) where
 
   abbrev pub cases_of : List ArmFound → Cases
   cases_of [] = no_cases
-  cases_of (a ∷ rest) = case_with (layer a.head) (block_of a.body) (cases_of rest)
+  cases_of (a ∷ rest) = case_with (layer a.head) (block_in a.body) (cases_of rest)
 
   abbrev pub body_of : List ArmFound → Block
-  body_of arms = block_of (flat_map (λ (a : ArmFound). a.body) arms)
+  body_of arms = block_in (flat_map (λ (a : ArmFound). a.body) arms)
 
   abbrev pub do_with : Option DoControl → Block → Statement
   do_with None turn = forever turn
@@ -218,4 +214,4 @@ module _ (known : Known) (file scope : ℕ) where
 
   -- the statements of a scoping unit
   abbrev pub actions_of : List BlockTree → Block
-  actions_of blocks = block_of (flat_map (λ block. fold-Block (Around → List Statement) ArmStep block_step arm_step block []) blocks)
+  actions_of blocks = block_in (flat_map (λ block. fold-Block (Around → List Statement) ArmStep block_step arm_step block []) blocks)

@@ -21,5 +21,5 @@ pub use laws::{a_run_is_one, more_steps_only_add, places_return, room_is_free, t
 pub use outcome::{FaultCode, Outcome};
 pub use program::{Core, Procedure};
 pub use site::Site;
-pub use stmt::{Action, Arms, CaseValues, Cases, Stmt, Stmts};
+pub use stmt::{Action, Arm, Case, CaseValues, Stmt};
 pub use storage::{Area, Content, Dimension, Home, Limit, Run, Variable};

@@ -1,8 +1,8 @@
 //! Resolved programs.
 
-use crate::stmt::Stmts;
+use crate::stmt::Stmt;
 use crate::storage::{Area, Variable};
-use sqlite_items::Items;
+use sqlite_items::{Boxed, Items};
 
 /// A procedure that the project defines (Fortran 90, 12.5.2).
 #[derive(Drop)]
@@ -12,7 +12,7 @@ pub struct Procedure {
     /// The number of the variable that is the result of a function.
     pub result: Option<u32>,
     /// Its executable statements.
-    pub body: Stmts,
+    pub body: Items<Boxed<Stmt>>,
 }
 
 /// A resolved program: its executable statements with each name replaced by what it denotes, and the storage that they work on.
@@ -25,5 +25,5 @@ pub struct Core {
     /// The storage areas, in the order of their units in the row of all.
     pub areas: Items<Area>,
     /// The executable statements of the main program.
-    pub main: Stmts,
+    pub main: Items<Boxed<Stmt>>,
 }

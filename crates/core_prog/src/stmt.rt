@@ -61,7 +61,7 @@ pub enum Action {
     },
 }
 
-/// An action statement or a construct (8.1). An IF statement is an IF construct with one arm.
+/// An action statement or a construct (8.1). An IF statement is an IF construct with one arm. A block (8.1.1) is a list of them.
 #[cycle(stmt)]
 #[derive(Drop)]
 pub enum Stmt {
@@ -69,19 +69,19 @@ pub enum Stmt {
     Action(Action),
     /// IF (8.1.2).
     If {
-        /// IF and each ELSE IF with its block.
-        arms: Boxed<Arms>,
+        /// IF and each ELSE IF with its block, in their order.
+        arms: Items<Arm>,
         /// The block of ELSE.
-        otherwise: Boxed<Stmts>,
+        otherwise: Items<Boxed<Stmt>>,
     },
     /// SELECT CASE (8.1.3).
     Select {
         /// The integer that is looked up.
         selector: Expr,
-        /// Each CASE but CASE DEFAULT.
-        cases: Boxed<Cases>,
+        /// Each CASE but CASE DEFAULT, in their order.
+        cases: Items<Case>,
         /// The block of CASE DEFAULT.
-        otherwise: Boxed<Stmts>,
+        otherwise: Items<Boxed<Stmt>>,
     },
     /// DO with a variable (8.1.4.1.1).
     Count {
@@ -96,59 +96,35 @@ pub enum Stmt {
         /// What it grows by, where that is written.
         by: Option<Expr>,
         /// The block.
-        body: Boxed<Stmts>,
+        body: Items<Boxed<Stmt>>,
     },
     /// DO WHILE (8.1.4.1.1).
     While {
         /// The condition.
         condition: Expr,
         /// The block.
-        body: Boxed<Stmts>,
+        body: Items<Boxed<Stmt>>,
     },
     /// DO without control.
-    Forever(Boxed<Stmts>),
+    Forever(Items<Boxed<Stmt>>),
 }
 
-/// A block (8.1.1).
+/// IF or ELSE IF with its block.
 #[cycle(stmt)]
 #[derive(Drop)]
-pub enum Stmts {
-    /// The end of the block.
-    End,
-    /// A statement or construct, and those after it.
-    More(Boxed<Stmt>, Boxed<Stmts>),
+pub struct Arm {
+    /// The condition.
+    pub condition: Expr,
+    /// The block.
+    pub body: Items<Boxed<Stmt>>,
 }
 
-/// IF and ELSE IF with their blocks, in their order.
+/// A CASE statement with values, and its block.
 #[cycle(stmt)]
 #[derive(Drop)]
-pub enum Arms {
-    /// No more.
-    NoArms,
-    /// A condition and its block, and the arms after it.
-    Arm {
-        /// The condition.
-        condition: Expr,
-        /// The block.
-        body: Boxed<Stmts>,
-        /// The arms after it.
-        rest: Boxed<Arms>,
-    },
-}
-
-/// CASE statements with values and their blocks, in their order.
-#[cycle(stmt)]
-#[derive(Drop)]
-pub enum Cases {
-    /// No more.
-    NoCases,
-    /// Values and their block, and the cases after it.
-    Case {
-        /// The values.
-        values: Items<CaseValues>,
-        /// The block.
-        body: Boxed<Stmts>,
-        /// The cases after it.
-        rest: Boxed<Cases>,
-    },
+pub struct Case {
+    /// The values.
+    pub values: Items<CaseValues>,
+    /// The block.
+    pub body: Items<Boxed<Stmt>>,
 }
