@@ -1,5 +1,5 @@
 -- The first fault of a project, as far as its stages are built (this project's own): its files are read one by one, and then one looks at their
--- declarations, and then at its modules and names. A stage that isn't built finds no fault.
+-- declarations, then at its modules and names, and then at its constants and shapes. A stage that isn't built finds no fault.
 use Rattle.std.specs.Prelude.{◌≡◌, ◌⊎◌, ℕ, List, [], ◌∷◌, length, Option, Some, None}
 use Rattle.std.specs.List.{sum_by}
 use Rattle.std.specs.Option.{option_or}
@@ -7,6 +7,7 @@ use Rattle.ftn_base.specs.Files.{File}
 use Rattle.ftn_base.specs.declared.fault.Fault.{Fault}
 use Rattle.ftn_base.specs.declared.name.Edition.{Edition}
 use Rattle.ftn_base.specs.declared.place.Range.{Range}
+use Rattle.ftn_tree.specs.ConstantFaults.{constant_fault}
 use Rattle.ftn_tree.specs.DeclarationFaults.{declaration_fault}
 use Rattle.ftn_tree.specs.FileFaults.{IsTreeOf}
 use Rattle.ftn_tree.specs.NameFaults.{name_fault}
@@ -22,7 +23,7 @@ AreTreesOf edition (file ∷ files) (tree ∷ trees) = IsTreeOf edition file.1 t
 
 -- the first fault of the stages that come after the reading of files, as far as they are built
 abbrev pub built_fault : List FileTree → Option Fault
-built_fault trees = option_or (declaration_fault trees) (name_fault trees)
+built_fault trees = option_or (declaration_fault trees) (option_or (name_fault trees) (constant_fault trees))
 
 abbrev pub AreSoundTrees : Edition → List File → List FileTree → Type 0
 AreSoundTrees edition files trees = AreTreesOf edition files trees × (built_fault trees ≡ None)

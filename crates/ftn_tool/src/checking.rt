@@ -12,6 +12,7 @@ ghost use Rattle.ftn_tool.specs.BuiltFaults.{AreTreesOf, AreSoundTrees, built_fa
 ghost use Rattle.ftn_tool.specs.steps.Found as spec;
 ghost use Rattle.ftn_tool.specs.steps.Fronts.{IsSmall};
 
+use const_value::values;
 use decl_table::declare;
 use free_scan::{ScanFault, scan};
 use ftn_base::{Bytes, Edition, Fault, FileName, Range, Span, Steps};
@@ -35,14 +36,16 @@ pub fn sound_trees(
     Ok(trees)
 }
 
-/// Takes the stages that come after the reading of files, as far as they are built, one after another: declarations; modules and names.
+/// Takes the stages that come after the reading of files, as far as they are built, one after another: declarations; modules and names; constants
+/// and shapes.
 fn take_stages(alloc: Global, trees: &[FileTree]) -> Result<(), TableFault>
     requires { AreTrees trees.now }
     ensures sound { IsOk result → built_fault trees.now ≡ None }
     ensures fault { (f : Fault) → result ≡ Err (table_fault.Project f) → built_fault trees.now ≡ Some f }
 {
     let tables = declare(alloc, trees)?;
-    let _bound = bind(alloc, trees, tables)?;
+    let bound = bind(alloc, trees, tables)?;
+    let _values = values(alloc, trees, &bound)?;
     Ok(())
 }
 
