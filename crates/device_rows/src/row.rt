@@ -63,7 +63,7 @@ impl Row {
     fn add(&mut self, alloc: Global, texts: &[Part], part: &Part) -> Result<(), RowFault> {
         match part.key {
             "words" => self.add_words(alloc, part.rest),
-            "file" | "after" => self.add_file(alloc, texts, part),
+            "file" | "before" | "after" => self.add_file(alloc, texts, part),
             "status" => {
                 self.status = Some(part.rest.parse::<u8>()?);
                 Ok(())
@@ -81,14 +81,17 @@ impl Row {
         Ok(())
     }
 
-    /// `file` puts a file before and after the command, and `after` after it alone.
+    /// `file` puts a file before and after the command, `before` before it alone, and `after` after it alone.
     fn add_file(&mut self, alloc: Global, texts: &[Part], part: &Part) -> Result<(), RowFault> {
         let (name, text) = part.rest.split_once(' ').unwrap_or((part.rest, ""));
         let text = text_of(texts, text).unwrap_or(&part.body);
-        if part.key == "file" {
+        if part.key != "after" {
             put(alloc, &mut self.before, name, text)?;
         }
-        put(alloc, &mut self.after, name, text)
+        if part.key != "before" {
+            put(alloc, &mut self.after, name, text)?;
+        }
+        Ok(())
     }
 
     /// What the line says of failing calls.

@@ -14,9 +14,12 @@ Usage:
   ftn_tool apply rename FILE LINE COLUMN NEW
       Give the entity whose name stands at that line and column of the file
       the name NEW, everywhere. Lines and columns count from 1, columns in bytes.
+  ftn_tool recover
+      Complete a change that was stopped: put the files of ftn.plan, and take
+      ftn.plan away.
   ftn_tool -h | --help
   ftn_tool --version
-Anywhere after the first word of a command may stand, once,
+Anywhere after the first word of check or apply may stand, once,
   --edition=2003
       Names have at most 63 letters, in place of 31, and a statement has at most
       255 continuation lines, in place of 39.
@@ -32,15 +35,24 @@ fault `apply` answers `fault NotBuilt -`.
 Output, one line, and exit codes:
   0  ok F files, U units       no fault was found
   0  applying 1 files          the rename was made
+  0  recovering N files        the change that was stopped is made whole
+  0  nothing to recover        no change was stopped
   1  refused CONDITION PLACE   a condition fails; no file changed
   2  bad word K                the K-th word is bad or missing
   3  fault NAME PLACE          the project has this fault first; no file changed
-  4  limit WHICH               the project is too large; no file changed
+  3  fault NotAPlan PLACE      ftn.plan is no plan; no file changed
+  4  limit WHICH               the project or the plan is too large; no file
+                               changed
   5  store fault               a file could not be read or written; standard
                                error tells which, and why
   7                            standard output failed; no file changed
   8                            out of memory; no file changed
-PLACE is FILE:LINE:COLUMN, or - where there is none.
+ 11  pending                   a change was stopped: recover completes it
+PLACE is FILE:LINE:COLUMN, or - where there is none; of NotAPlan it is
+ftn.plan:OFFSET.
+
+A change is written to ftn.plan first, and ftn.plan is taken away last. After
+store fault, or a stop, each file has its old or its new text.
 
 Conditions of rename:
   NoName    no name stands at that place
@@ -53,6 +65,7 @@ Limits:
   files     a project has at most 4096 files
   file      a file has at most 4194304 bytes
   project   the files of a project have at most 16777216 bytes all together
+  plan      ftn.plan has at most 20971520 bytes
 ";
 
 /// The version.

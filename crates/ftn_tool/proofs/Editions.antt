@@ -7,7 +7,7 @@ use Rattle.std.proofs.Math.Seq.{take-append_seam, drop-append-add}
 use Rattle.ftn_base.specs.declared.name.Edition.{Edition}
 use Rattle.ftn_base.specs.declared.name.Edition.TheVariants.{F90, F2003}
 use Rattle.ftn_tool.specs.declared.command.Command.{Command}
-use Rattle.ftn_tool.specs.Words.{Row, Word, bad_position, command_of, commands, edition_in, is_begun, is_edition, is_whole, least_bad, meant, plain, without_first}
+use Rattle.ftn_tool.specs.Words.{Row, Word, bad_position, command_of, commands, edition_in, is_begun, names_edition, is_whole, least_bad, meant, plain, without_first}
 use Rattle.ftn_tool.specs.steps.Reading.{edition_by, edition_from, option_at, place_of, position_of, read}
 use Rattle.ftn_tool.specs.steps.Reading.{plain as left_out}
 use Rattle.ftn_tool.proofs.Positions.{meant_plain, read_is_plain_command}
@@ -62,21 +62,21 @@ module _ (test : Word → Bool) where
 
 -- ---- the place of the option
 
-no_option : (at : ℕ) (words : List Word) → list_any is_edition words ≡ false → edition_from at words ≡ None
-no_option at [] none = refl
-no_option at (word ∷ words) none =
-    let parts = or_parts (is_edition word) (list_any is_edition words) none in
-    ap (λ (b : Bool). cond b (Some at) (edition_from (at + 1) words)) parts.0 ∙ no_option (at + 1) words parts.1
+no_option : (test : Word → Bool) (at : ℕ) (words : List Word) → list_any test words ≡ false → edition_from test at words ≡ None
+no_option test at [] none = refl
+no_option test at (word ∷ words) none =
+    let parts = or_parts (test word) (list_any test words) none in
+    ap (λ (b : Bool). cond b (Some at) (edition_from test (at + 1) words)) parts.0 ∙ no_option test (at + 1) words parts.1
 
 some_at : (n m : ℕ) → n ≡ m → ◌≡◌ {A = Option ℕ} (Some n) (Some m)
 some_at n m e = ap Some e
 
-the_option : (at : ℕ) (before : List Word) (option : Word) (after : List Word) → list_any is_edition before ≡ false → is_edition option ≡ true → edition_from at (before ++ option ∷ after) ≡ Some (at + length before)
-the_option at [] option after none is = ap (λ (b : Bool). cond b (Some at) (edition_from (at + 1) after)) is ∙ some_at at (at + 0) (omega arith)
-the_option at (word ∷ before) option after none is =
-    let parts = or_parts (is_edition word) (list_any is_edition before) none in
-    ap (λ (b : Bool). cond b (Some at) (edition_from (at + 1) (before ++ option ∷ after))) parts.0
-    ∙ the_option (at + 1) before option after parts.1 is
+the_option : (test : Word → Bool) (at : ℕ) (before : List Word) (option : Word) (after : List Word) → list_any test before ≡ false → test option ≡ true → edition_from test at (before ++ option ∷ after) ≡ Some (at + length before)
+the_option test at [] option after none is = ap (λ (b : Bool). cond b (Some at) (edition_from test (at + 1) after)) is ∙ some_at at (at + 0) (omega arith)
+the_option test at (word ∷ before) option after none is =
+    let parts = or_parts (test word) (list_any test before) none in
+    ap (λ (b : Bool). cond b (Some at) (edition_from test (at + 1) (before ++ option ∷ after))) parts.0
+    ∙ the_option test (at + 1) before option after parts.1 is
     ∙ some_at (at + 1 + length before) (at + suc (length before)) (omega arith)
 
 -- ---- the least position that is bad
@@ -167,28 +167,28 @@ one_more : (n : ℕ) → n + 1 ≡ suc n
 one_more n = omega arith
 
 -- the words after the first one
-abbrev Parted : List Word → Type 0
-Parted words =
-    (list_any is_edition words ≡ false)
-    ⊎ ((before : List Word) × (option : Word) × (after : List Word) × (words ≡ before ++ option ∷ after) × (list_any is_edition before ≡ false) × (is_edition option ≡ true))
+abbrev Parted : (Word → Bool) → List Word → Type 0
+Parted test words =
+    (list_any test words ≡ false)
+    ⊎ ((before : List Word) × (option : Word) × (after : List Word) × (words ≡ before ++ option ∷ after) × (list_any test before ≡ false) × (test option ≡ true))
 
 neither : (a b : Bool) → a ≡ false → b ≡ false → (a || b) ≡ false
 neither a b e f = ap (λ (c : Bool). c || b) e ∙ f
 
-parted : (words : List Word) → Parted words
-parted [] = inl refl
-parted (word ∷ words) = on (is_edition word) refl (parted words)
+parted : (test : Word → Bool) (words : List Word) → Parted test words
+parted test [] = inl refl
+parted test (word ∷ words) = on (test word) refl (parted test words)
   where
-    on : (b : Bool) → is_edition word ≡ b → Parted words → Parted (word ∷ words)
+    on : (b : Bool) → test word ≡ b → Parted test words → Parted test (word ∷ words)
     on true is rest = inr ([], word, words, refl, refl, is)
-    on false not (inl none) = inl (neither (is_edition word) (list_any is_edition words) not none)
+    on false not (inl none) = inl (neither (test word) (list_any test words) not none)
     on false not (inr found) =
         inr (
           word ∷ found.0,
           found.1,
           found.2,
           ap (λ (ws : List Word). word ∷ ws) found.3,
-          neither (is_edition word) (list_any is_edition found.0) not found.4,
+          neither (test word) (list_any test found.0) not found.4,
           found.5,
         )
 
@@ -201,26 +201,26 @@ reads_by : (words others : List Word) (option : Option ℕ) → option_at words 
 reads_by words others option is left means =
     means ∙ ap (λ (ws : List Word). moved option (read (edition_by option) ws)) (sym left) ∙ sym (ap (λ (o : Option ℕ). moved o (read (edition_by o) (left_out o words))) is)
 
-without_option : (first : Word) (rest : List Word) → list_any is_edition rest ≡ false → Reads (first ∷ rest)
+without_option : (first : Word) (rest : List Word) → list_any (names_edition first) rest ≡ false → Reads (first ∷ rest)
 without_option first rest none =
-    reads_by (first ∷ rest) (first ∷ rest) None (no_option 1 rest none) refl
+    reads_by (first ∷ rest) (first ∷ rest) None (no_option (names_edition first) 1 rest none) refl
     (command_moved (first ∷ rest) (first ∷ rest) F90 None
-    (ap (λ (ws : List Word). first ∷ ws) (none_whole is_edition rest none))
+    (ap (λ (ws : List Word). first ∷ ws) (none_whole (names_edition first) rest none))
     (ap (λ (b : Bool). cond b F2003 F90) none)
     (same_least (λ (front : List Word). is_begun (plain front)) is_begun (first ∷ rest) fronts (length (first ∷ rest)) 1))
   where
     fronts : (k : ℕ) → is_begun (plain (take k (first ∷ rest))) ≡ is_begun (take k (first ∷ rest))
     fronts zero = refl
-    fronts (suc k) = ap (λ (ws : List Word). is_begun (first ∷ ws)) (none_take is_edition rest k none)
+    fronts (suc k) = ap (λ (ws : List Word). is_begun (first ∷ ws)) (none_take (names_edition first) rest k none)
 
-with_option : (first : Word) (before : List Word) (option : Word) (after : List Word) → list_any is_edition before ≡ false → is_edition option ≡ true
+with_option : (first : Word) (before : List Word) (option : Word) (after : List Word) → list_any (names_edition first) before ≡ false → names_edition first option ≡ true
     → Reads (first ∷ (before ++ option ∷ after))
 with_option first before option after none is =
-    reads_by (first ∷ rest) (first ∷ (before ++ after)) (Some (suc (length before))) (the_option 1 before option after none is ∙ some_at (1 + length before) (suc (length before)) (omega arith))
+    reads_by (first ∷ rest) (first ∷ (before ++ after)) (Some (suc (length before))) (the_option (names_edition first) 1 before option after none is ∙ some_at (1 + length before) (suc (length before)) (omega arith))
     all_left
     (command_moved (first ∷ rest) (first ∷ (before ++ after)) F2003 (Some (suc (length before)))
-    (ap (λ (ws : List Word). first ∷ ws) (whole_without is_edition option after is before none))
-    (ap (λ (b : Bool). cond b F2003 F90) (some_any is_edition option after is before))
+    (ap (λ (ws : List Word). first ∷ ws) (whole_without (names_edition first) option after is before none))
+    (ap (λ (b : Bool). cond b F2003 F90) (some_any (names_edition first) option after is before))
     (ap (λ (n : ℕ). least_bad (λ (front : List Word). is_begun (plain front)) n 1 (first ∷ rest)) many
     ∙ least_before (λ (front : List Word). is_begun (plain front)) is_begun (first ∷ rest) (first ∷ (before ++ after)) (suc (length before)) early late
     (length (first ∷ (before ++ after))) 1 (omega arith) (omega (arith, length-append before after))))
@@ -243,19 +243,19 @@ with_option first before option after none is =
 
     early : (k : ℕ) → k ≤ suc (length before) → is_begun (plain (take k (first ∷ rest))) ≡ is_begun (take k (first ∷ (before ++ after)))
     early zero within = refl
-    early (suc k) within = ap (λ (ws : List Word). is_begun (first ∷ ws)) (take_before is_edition option after is before k none (omega (arith, within)))
+    early (suc k) within = ap (λ (ws : List Word). is_begun (first ∷ ws)) (take_before (names_edition first) option after is before k none (omega (arith, within)))
 
     late : (k : ℕ) → suc (length before) ≤ k → is_begun (plain (take (k + 1) (first ∷ rest))) ≡ is_begun (take k (first ∷ (before ++ after)))
     late zero past = absurd (omega (arith, past))
     late (suc k) past =
         ap (λ (n : ℕ). is_begun (plain (take n (first ∷ rest)))) (one_more (suc k))
-        ∙ ap (λ (ws : List Word). is_begun (first ∷ ws)) (take_past is_edition option after is before k none (omega (arith, past)))
+        ∙ ap (λ (ws : List Word). is_begun (first ∷ ws)) (take_past (names_edition first) option after is before k none (omega (arith, past)))
 
 pub command_read : (words : List Word) → Reads words
 command_read [] = refl
-command_read (first ∷ rest) = on (parted rest)
+command_read (first ∷ rest) = on (parted (names_edition first) rest)
   where
-    on : Parted rest → Reads (first ∷ rest)
+    on : Parted (names_edition first) rest → Reads (first ∷ rest)
     on (inl none) = without_option first rest none
     on (inr found) =
         subst (λ (ws : List Word). Reads (first ∷ ws)) (sym found.3)
@@ -302,16 +302,16 @@ module _ {A : Type 0} (bytes : A → Word) where
   drop_words (word ∷ words) zero default inside = refl
   drop_words (word ∷ words) (suc i) default inside = drop_words words i default (omega (arith, inside))
 
-  edition_here : (words : List A) (i : ℕ) (word : A) → i < length words → word ≡ get_or words i word
-      → edition_from i (drop i (map bytes words)) ≡ cond (is_edition (bytes word)) (Some i) (edition_from (i + 1) (drop (i + 1) (map bytes words)))
-  edition_here words i word inside is =
-      ap (edition_from i) (drop_words words i word inside ∙ ap (λ (w : A). bytes w ∷ drop (suc i) (map bytes words)) (sym is) ∙ ap (λ (n : ℕ). bytes word ∷ drop n (map bytes words)) (sym (one_more i)))
+  edition_here : (test : Word → Bool) (words : List A) (i : ℕ) (word : A) → i < length words → word ≡ get_or words i word
+      → edition_from test i (drop i (map bytes words)) ≡ cond (test (bytes word)) (Some i) (edition_from test (i + 1) (drop (i + 1) (map bytes words)))
+  edition_here test words i word inside is =
+      ap (edition_from test i) (drop_words words i word inside ∙ ap (λ (w : A). bytes w ∷ drop (suc i) (map bytes words)) (sym is) ∙ ap (λ (n : ℕ). bytes word ∷ drop n (map bytes words)) (sym (one_more i)))
 
-  pub edition_yes : (words : List A) (i : ℕ) (word : A) → i < length words → word ≡ get_or words i word → is_edition (bytes word) ≡ true → edition_from i (drop i (map bytes words)) ≡ Some i
-  edition_yes words i word inside is passes =
-      edition_here words i word inside is ∙ ap (λ (b : Bool). cond b (Some i) (edition_from (i + 1) (drop (i + 1) (map bytes words)))) passes
+  pub edition_yes : (test : Word → Bool) (words : List A) (i : ℕ) (word : A) → i < length words → word ≡ get_or words i word → test (bytes word) ≡ true → edition_from test i (drop i (map bytes words)) ≡ Some i
+  edition_yes test words i word inside is passes =
+      edition_here test words i word inside is ∙ ap (λ (b : Bool). cond b (Some i) (edition_from test (i + 1) (drop (i + 1) (map bytes words)))) passes
 
-  pub edition_not : (words : List A) (i : ℕ) (word : A) → i < length words → word ≡ get_or words i word → is_edition (bytes word) ≡ false
-      → edition_from i (drop i (map bytes words)) ≡ edition_from (i + 1) (drop (i + 1) (map bytes words))
-  edition_not words i word inside is fails =
-      edition_here words i word inside is ∙ ap (λ (b : Bool). cond b (Some i) (edition_from (i + 1) (drop (i + 1) (map bytes words)))) fails
+  pub edition_not : (test : Word → Bool) (words : List A) (i : ℕ) (word : A) → i < length words → word ≡ get_or words i word → test (bytes word) ≡ false
+      → edition_from test i (drop i (map bytes words)) ≡ edition_from test (i + 1) (drop (i + 1) (map bytes words))
+  edition_not test words i word inside is fails =
+      edition_here test words i word inside is ∙ ap (λ (b : Bool). cond b (Some i) (edition_from test (i + 1) (drop (i + 1) (map bytes words)))) fails

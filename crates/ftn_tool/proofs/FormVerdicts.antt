@@ -16,8 +16,8 @@ use Rattle.rename_ref.specs.Conditions.{judged}
 use Rattle.rename_ref.specs.declared.judgement.Judgement.{Judgement}
 use Rattle.rename_ref.specs.declared.rename.Rename.{Rename}
 use Rattle.ftn_base.specs.declared.name.Edition.{Edition}
-use Rattle.ftn_tool.specs.declared.command.Command.{Command}
-use Rattle.ftn_tool.specs.declared.command.Command.TheVariants as commands
+use Rattle.ftn_tool.specs.declared.command.ProjectCommand.{ProjectCommand}
+use Rattle.ftn_tool.specs.declared.command.ProjectCommand.TheVariants as commands
 use Rattle.ftn_tool.specs.declared.command.Order.{Order}
 use Rattle.ftn_tool.specs.declared.command.Request.TheVariants as requests
 use Rattle.ftn_tool.specs.declared.verdict.Verdict.{Verdict}
@@ -26,24 +26,24 @@ use Rattle.ftn_tool.specs.BuiltFaults.{AreSoundTrees, IsProjectFault, units_of}
 use Rattle.ftn_tool.specs.Commands.{edition_of, rename_in}
 use Rattle.ftn_tool.specs.Verdicts.{Gives, GivesOrder, GivesSound, IsNotBuilt, checked, sole, verdict_of}
 
-pub gives_fault : (command : Command) (files : List File) (fault : Fault) → limit_of files ≡ None → IsProjectFault (edition_of command) files fault → Gives command files (Broken fault)
+pub gives_fault : (command : ProjectCommand) (files : List File) (fault : Fault) → limit_of files ≡ None → IsProjectFault (edition_of command) files fault → Gives command files (Broken fault)
 gives_fault command files fault none is = inr (none, inl (fault, is, refl))
 
-pub gives_sound : (command : Command) (files : List File) (trees : List FileTree) (verdict : Verdict) → limit_of files ≡ None → AreSoundTrees (edition_of command) files trees
+pub gives_sound : (command : ProjectCommand) (files : List File) (trees : List FileTree) (verdict : Verdict) → limit_of files ≡ None → AreSoundTrees (edition_of command) files trees
     → GivesSound command files verdict → Gives command files verdict
 gives_sound command files trees verdict none are gives = inr (none, inr ((trees, are), gives))
 
-pub gives_order : (command : Command) (order : Order) (edition : Edition) (files : List File) (trees : List FileTree) (result : Result Verdict NoMemory) → command ≡ commands.Apply order edition
+pub gives_order : (command : ProjectCommand) (order : Order) (edition : Edition) (files : List File) (trees : List FileTree) (result : Result Verdict NoMemory) → command ≡ commands.Apply order edition
     → limit_of files ≡ None → AreSoundTrees (edition_of command) files trees → IfOk result (GivesOrder (rename_in order) files) → IfOk result (Gives command files)
 gives_order command order edition files trees (Ok verdict) is none are gives =
-    gives_sound command files trees verdict none are (subst (λ (c : Command). GivesSound c files verdict) (sym is) gives)
+    gives_sound command files trees verdict none are (subst (λ (c : ProjectCommand). GivesSound c files verdict) (sym is) gives)
 gives_order command order edition files trees (Err fault) is none are gives = tt
 
-pub gives_checked : (command : Command) (edition : Edition) (files : List File) (trees : List FileTree) (verdict : Verdict) → command ≡ commands.Ask requests.Check edition → limit_of files ≡ None
+pub gives_checked : (command : ProjectCommand) (edition : Edition) (files : List File) (trees : List FileTree) (verdict : Verdict) → command ≡ commands.Ask requests.Check edition → limit_of files ≡ None
     → AreSoundTrees (edition_of command) files trees → verdict ≡ checked (length files) (units_of trees) → Gives command files verdict
 gives_checked command edition files trees verdict is none are made =
     gives_sound command files trees verdict none are
-    (subst (λ (c : Command). GivesSound c files verdict) (sym is) (trees, subst (λ (e : Edition). AreSoundTrees e files trees) (ap edition_of is) are, made))
+    (subst (λ (c : ProjectCommand). GivesSound c files verdict) (sym is) (trees, subst (λ (e : Edition). AreSoundTrees e files trees) (ap edition_of is) are, made))
 
 -- ---- the one file of a project
 

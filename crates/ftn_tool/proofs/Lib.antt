@@ -8,6 +8,8 @@ pub mod FirstFault
 pub mod FormVerdicts
 pub mod Writing
 pub mod NewProject
+pub mod Sized
 pub mod Applying
+pub mod Completing
 pub mod Promising
 pub mod Rising

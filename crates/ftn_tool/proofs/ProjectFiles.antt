@@ -1,12 +1,13 @@
 -- Reading the listed files one by one gives the project's files.
-use Rattle.std.proofs.Common.{◌≡◌, ℕ, suc, ◌+◌, ◌≤◌, ◌<◌, Bool, true, false, cond, List, [], ◌∷◌, ◌++◌, length, map, take, drop, get_or, Option, None, Some, refl, sym, ap, ◌∙◌, subst, arith}
-use Rattle.std.proofs.lemmas.Bool.{and_parts}
-use Rattle.std.specs.Prelude.{IfSome, Result, Ok, Err, IfOk, IfErr, Vec}
-use Rattle.std.specs.List.{filter}
+use Rattle.std.proofs.Common.{◌≡◌, ℕ, suc, ◌+◌, ◌≤◌, ◌<◌, Bool, true, false, cond, List, [], ◌∷◌, ◌++◌, length, map, take, drop, get_or, Option, None, Some, is_some, true≢false, refl, sym, ap, ◌∙◌, subst, arith}
+use Rattle.std.proofs.lemmas.Bool.{and_from, and_parts}
+use Rattle.std.proofs.lemmas.List.Folds.{list_all-append}
+use Rattle.std.specs.Prelude.{IfSome, Result, Ok, Err, IfOk, IfErr, OnOk, Vec}
+use Rattle.std.specs.List.{filter, list_any}
 use Rattle.std.proofs.lemmas.List.{append-nil, drop_more, length-map}
 use Rattle.std.specs.Option.{option_map}
 use Rattle.std.specs.Ordering.{is_eq, is_lt, ordering_reverse, eq_by_cmp}
-use Rattle.std.specs.FinMap.Entries.{below_all, is_sorted}
+use Rattle.std.specs.FinMap.Entries.{below_all, is_some-find, is_sorted}
 use Rattle.std.specs.Cmp.{tied_itself}
 use Rattle.std.proofs.lemmas.Cmp.{nat_list_cmp_total}
 use Rattle.std.specs.declared.cmp.Ordering.{Ordering}
@@ -16,9 +17,11 @@ use Rattle.ftn_base.specs.Limits.{most_files}
 use Rattle.ftn_base.specs.declared.limits.Limit.{Limit}
 use Rattle.ftn_base.specs.declared.limits.Limit.TheVariants as limits
 use Rattle.ftn_tree.specs.ProjectLimits.{limit_of, past_bytes}
+use Rattle.plan_store.specs.Middle.{HasNoPlan, plan_name}
 use Rattle.ftn_tool.specs.declared.project.ProjectFault.{ProjectFault}
 use Rattle.ftn_tool.specs.declared.project.ProjectFault.TheVariants as faults
-use Rattle.ftn_tool.specs.steps.Fronts.{IsPassed, front, front_of, fronts, source_front, with_name}
+use Rattle.ftn_tool.specs.steps.Fronts.{IsPassed, IsStopped, are_sources, front, front_of, fronts, source_front, with_name}
+use Rattle.ftn_tool.specs.Verdicts.{HasPlan}
 use Rattle.ftn_tool.proofs.Sizes.{few_files, many_files}
 
 -- each of these files is found by its name
@@ -89,25 +92,46 @@ pub told_within : {A : Type 0} (names : List (List ℕ)) (result : Result (Vec F
 told_within names (Ok found) count few none = few_files found.items (omega (arith, count, few)) ∙ none
 told_within names (Err fault) count few none = tt
 
-pub told_many : (told : Option (List File)) (names : List (List ℕ)) → IfSome told (AreListed names) → most_files < length (filter is_source names)
-    → IfSome told (λ files. limit_of (map front_of (project files)) ≡ Some limits.Files)
-told_many None names listed many = tt
-told_many (Some files) names listed many = many_files (map front_of (project files)) (subst (λ (n : ℕ). most_files < n) (front_count files names listed.0) many)
-
 past_limit : (passed other : Option Limit) (fault : ProjectFault) → passed ≡ other → IsPassed other fault → IsPassed passed fault
 past_limit passed other (faults.Past which) same is = same ∙ is
+past_limit passed other faults.Waiting same is = is
 past_limit passed other faults.StoreFailed same is = tt
 past_limit passed other faults.NoMemory same is = tt
 
-pub told_past : {A : Type 0} (told : Option (List File)) (names : List (List ℕ)) (result : Result (Vec File A) ProjectFault) → IfSome told (AreListed names)
+-- ---- a plan file
+
+some_of : (text : Option (List ℕ)) → is_some text ≡ true → (found : List ℕ) × (text ≡ Some found)
+some_of None is = absurd (true≢false (sym is))
+some_of (Some found) is = (found, refl)
+
+-- a plan file that is listed is there
+pub told_waiting : (told : Option (List File)) (names : List (List ℕ)) → IfSome told (AreListed names) → list_any (eq_by_cmp by_name plan_name) names ≡ true → IfSome told HasPlan
+told_waiting None names listed here = tt
+told_waiting (Some files) names listed here =
+    some_of (text_of files plan_name) (is_some-find by_name plan_name files ∙ ap (list_any (eq_by_cmp by_name plan_name)) (sym listed.0) ∙ here)
+
+-- ---- why no project is read
+
+stopped_by : (files : List File) (fault : ProjectFault) → HasNoPlan files → IsPassed (limit_of (map front_of (project files))) fault → IsStopped fault files
+stopped_by files faults.Waiting none is = absurd is
+stopped_by files (faults.Past which) none is = (none, is)
+stopped_by files faults.StoreFailed none is = tt
+stopped_by files faults.NoMemory none is = tt
+
+pub told_many : (told : Option (List File)) (names : List (List ℕ)) → IfSome told (AreListed names) → IfSome told HasNoPlan → most_files < length (filter is_source names)
+    → IfSome told (IsStopped (faults.Past limits.Files))
+told_many None names listed none many = tt
+told_many (Some files) names listed none many = (none, many_files (map front_of (project files)) (subst (λ (n : ℕ). most_files < n) (front_count files names listed.0) many))
+
+pub told_stopped : {A : Type 0} (told : Option (List File)) (names : List (List ℕ)) (result : Result (Vec File A) ProjectFault) → IfSome told (AreListed names) → IfSome told HasNoPlan
     → length (filter is_source names) ≤ most_files
     → IfErr result (λ fault. IfSome told (λ files. IsPassed (past_bytes 0 (fronts files names)) fault))
-    → IfErr result (λ fault. IfSome told (λ files. IsPassed (limit_of (map front_of (project files))) fault))
-told_past told names (Ok found) listed count is = tt
-told_past None names (Err fault) listed count is = tt
-told_past (Some files) names (Err fault) listed count is =
+    → IfErr result (λ fault. IfSome told (IsStopped fault))
+told_stopped told names (Ok found) listed none count is = tt
+told_stopped None names (Err fault) listed none count is = tt
+told_stopped (Some files) names (Err fault) listed none count is =
     let few : length (map front_of (project files)) ≤ most_files = subst (λ (n : ℕ). n ≤ most_files) (front_count files names listed.0) count in
-    past_limit _ _ fault (few_files (map front_of (project files)) few ∙ ap (past_bytes 0) (sym (listed_fronts files names listed.0 listed.1))) is
+    stopped_by files fault none (past_limit _ _ fault (few_files (map front_of (project files)) few ∙ ap (past_bytes 0) (sym (listed_fronts files names listed.0 listed.1))) is)
 
 -- the front of a text that was read
 pub told_front : (most : ℕ) (told : Option (List File)) (name text : List ℕ) → IfSome told (λ files. option_map (take (most + 1)) (text_of files name) ≡ Some text) → is_source name ≡ true
@@ -133,3 +157,12 @@ passed_at (Some all) names files i size name text fault inside is found measured
     let next : drop i names ≡ name ∷ drop (i + 1) names = drop_more names i name inside ∙ ap (λ (n : List ℕ). n ∷ drop (i + 1) names) (sym is) in
     let here : fronts all (drop i names) ≡ (name, text) ∷ more = ap (fronts all) next ∙ ap (λ (o : Option (List ℕ)). with_name name o more) (sym read) in
     past_limit _ _ fault (ap (past_bytes 0) (found ∙ ap (λ (rest : List File). files ++ rest) here) ∙ measured ((name, text) ∷ more)) (passed more)
+
+-- what holds holds of an answer that is no fault
+pub on_ok : {A E P : Type 0} (result : Result A E) → P → OnOk result P
+on_ok (Ok x) holds = holds
+on_ok (Err fault) holds = tt
+
+pub sources_more : (files : List File) (name text : List ℕ) → are_sources files ≡ true → is_source name ≡ true → are_sources (files ++ (name, text) ∷ []) ≡ true
+sources_more files name text sources source =
+    list_all-append (λ (file : File). is_source file.0) files ((name, text) ∷ []) ∙ and_from _ _ sources (and_from _ _ source refl)

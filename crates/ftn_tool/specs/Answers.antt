@@ -1,33 +1,27 @@
 -- What a command line may answer, and what it leaves.
-use Rattle.std.specs.Prelude.{◌≡◌, ◌≢◌, ◌⊎◌, ℕ, List, [], ◌∷◌, ◌++◌, fold, take, Option, Some, Result, Ok, Err, IfSome}
-use Rattle.ftn_base.specs.Files.{File, project, with_file}
+use Rattle.std.specs.Prelude.{◌≡◌, ◌≢◌, ◌⊎◌, ℕ, List, [], ◌∷◌, ◌++◌, Some, Result, Ok, Err, IfSome}
+use Rattle.ftn_base.specs.Files.{File, project}
 use Rattle.ftn_base.specs.declared.status.Status.{Status}
 use Rattle.ftn_base.specs.declared.status.Status.TheVariants as status
 use Rattle.free_scan.specs.FirstForm.{IsProgramText}
 use Rattle.free_scan.specs.declared.first_form.program.Program.{Program}
 use Rattle.ftn_tree.specs.declared.token.Token.{Token}
 use Rattle.rename_ref.specs.Keeping.{Keeps}
+use Rattle.plan_store.specs.Middle.{HasNoPlan, IsMiddle, with_files}
 use Rattle.ftn_tool.specs.declared.command.Command.{Command}
-use Rattle.ftn_tool.specs.declared.command.Command.TheVariants as commands
+use Rattle.ftn_tool.specs.declared.command.Command.TheVariants.{Project, Recover}
+use Rattle.ftn_tool.specs.declared.command.ProjectCommand.{ProjectCommand}
+use Rattle.ftn_tool.specs.declared.command.ProjectCommand.TheVariants as commands
 use Rattle.ftn_tool.specs.declared.command.Order.{Order}
 use Rattle.ftn_tool.specs.declared.command.Order.TheVariants as orders
 use Rattle.ftn_tool.specs.declared.verdict.Verdict.{Verdict}
+use Rattle.ftn_tool.specs.Forces.{Forced}
 use Rattle.ftn_tool.specs.Lines.{line_of, store_fault_line, bad_word_line}
+use Rattle.ftn_tool.specs.Recovering.{Recovers}
 use Rattle.ftn_tool.specs.Seen.{Seen, HasRisen, HasTaken, HasTakenFront, KeepsFiles, Says}
 use Rattle.ftn_tool.specs.Verdicts.{IsVerdict, changed_by, sole, status_of}
 
--- an answer that a device may force in place of the due one; want of memory is free
-abbrev pub Forced : Seen → Status → Type 0
-Forced seen status.StoreFault = HasRisen seen.store
-Forced seen status.OutputFault = HasRisen seen.sink
-Forced seen status.NoMemory = Unit {0}
-Forced seen other = ⊥
-
 -- ---- what an accepted order keeps
-
--- the files after these were put among them, one after another
-abbrev pub with_files : List File → List File → List File
-with_files changed files = fold (λ all file. with_file file.0 file.1 all) files changed
 
 -- what an accepted order keeps of the program that the old text spells
 abbrev pub Preserves : Order → List ℕ → List ℕ → List Token → List ℕ → Program → Type 0
@@ -48,47 +42,50 @@ pub record IsFormKept (order : Order) (files changed : List File) : Type 0 where
   pub keeps : Preserves order name text tokens new_text program
 
 -- a question changes no file
-abbrev pub ChangeKeeps : Command → List File → List File → Type 0
+abbrev pub ChangeKeeps : ProjectCommand → List File → List File → Type 0
 ChangeKeeps (commands.Ask request edition) files changed = changed ≡ []
 ChangeKeeps (commands.Apply order edition) files changed = IsFormKept order files changed
 
 -- the command is to be carried out
-pub record IsAccepted (command : Command) (files : List File) (verdict : Verdict) : Type 0 where
+pub record IsAccepted (command : ProjectCommand) (files : List File) (verdict : Verdict) : Type 0 where
   pub due : IsVerdict command files verdict
   pub done : status_of verdict ≡ status.Done
   pub keeps : ChangeKeeps command files (changed_by verdict)
 
 -- ---- what each answer says of the project, of the files and of the sink
 
--- the command was carried out: the files are the old ones with the changed ones among them, and the line was written
-pub record WasDone (command : Command) (files : List File) (seen : Seen) : Type 0 where
+-- the command was carried out: the files are the old ones with the changed ones among them, there is no plan file, and the line was written
+pub record WasDone (command : ProjectCommand) (files : List File) (seen : Seen) : Type 0 where
   pub verdict : Verdict
   pub accepted : IsAccepted command files verdict
   pub files_after : seen.files.after ≡ Some (with_files (changed_by verdict) files)
+  pub planless : HasNoPlan (with_files (changed_by verdict) files)
   pub said : HasTaken seen (line_of (project files) verdict)
 
 -- the verdict has this answer, and its line was written, as far as the sink took it
-pub record WasSaid (command : Command) (files : List File) (seen : Seen) (answer : Status) : Type 0 where
+pub record WasSaid (command : ProjectCommand) (files : List File) (seen : Seen) (answer : Status) : Type 0 where
   pub verdict : Verdict
   pub due : IsVerdict command files verdict
   pub status_is : answer ≡ status_of verdict
   pub said : Says seen (line_of (project files) verdict)
 
--- the store failed as changed files were put: so many of them are put
-pub record FailedAtPut (command : Command) (files : List File) (seen : Seen) : Type 0 where
+-- the store failed as changed files were put: the files are the whole old ones, the whole new ones, or amid the change, which the plan file then
+-- completes
+pub record FailedAtPut (command : ProjectCommand) (files : List File) (seen : Seen) : Type 0 where
   pub verdict : Verdict
   pub accepted : IsAccepted command files verdict
-  pub put : ℕ
-  pub files_after : seen.files.after ≡ Some (with_files (take put (changed_by verdict)) files)
+  pub now : List File
+  pub files_after : seen.files.after ≡ Some now
+  pub middle : IsMiddle files (changed_by verdict) now
   pub said : Says seen (line_of (project files) verdict ++ store_fault_line)
 
 -- the sink didn't take the whole line of a command that is to be carried out, or there was no memory to do so
-pub record FailedAtLine (command : Command) (files : List File) (seen : Seen) : Type 0 where
+pub record FailedAtLine (command : ProjectCommand) (files : List File) (seen : Seen) : Type 0 where
   pub verdict : Verdict
   pub accepted : IsAccepted command files verdict
   pub said : HasTakenFront seen (line_of (project files) verdict)
 
-abbrev pub Answered : Command → List File → Seen → Status → Type 0
+abbrev pub Answered : ProjectCommand → List File → Seen → Status → Type 0
 Answered command files seen status.Done = WasDone command files seen
 Answered command files seen status.StoreFault = (KeepsFiles seen × Says seen store_fault_line) ⊎ FailedAtPut command files seen
 Answered command files seen status.OutputFault = FailedAtLine command files seen
@@ -96,13 +93,13 @@ Answered command files seen status.NoMemory = (seen.taken.after ≡ seen.taken.b
 Answered command files seen other = WasSaid command files seen other
 
 -- a question leaves the files as they are; an order changes them only at these two answers
-abbrev pub LeavesFiles : Command → Seen → Status → Type 0
+abbrev pub LeavesFiles : ProjectCommand → Seen → Status → Type 0
 LeavesFiles (commands.Ask request edition) seen answer = KeepsFiles seen
 LeavesFiles (commands.Apply order edition) seen answer = answer ≢ status.Done → answer ≢ status.StoreFault → KeepsFiles seen
 
 -- What a command over the files of a project promises. The first two fields speak of stores that tell their files, the others of every
 -- store.
-pub record Answers (command : Command) (seen : Seen) (answer : Status) : Type 0 where
+pub record Answers (command : ProjectCommand) (seen : Seen) (answer : Status) : Type 0 where
   pub answered : IfSome seen.files.before (λ files. Answered command files seen answer)
   -- the answer is the due one, or one that a device forced, or want of memory
   pub due : IfSome seen.files.before (λ files. (verdict : Verdict) → IsVerdict command files verdict → (answer ≡ status_of verdict) ⊎ Forced seen answer)
@@ -119,5 +116,6 @@ pub record Misreads (position : ℕ) (seen : Seen) (answer : Status) : Type 0 wh
 
 -- What is promised for the words of a command line: by the command that they mean, or the position of the bad word.
 abbrev pub Promises : Result Command ℕ → Seen → Status → Type 0
-Promises (Ok command) seen answer = Answers command seen answer
+Promises (Ok (Project command)) seen answer = Answers command seen answer
+Promises (Ok Recover) seen answer = Recovers seen answer
 Promises (Err position) seen answer = Misreads position seen answer

@@ -4,6 +4,8 @@ pub mod BuiltFaults
 pub mod Lines
 pub mod Verdicts
 pub mod Seen
+pub mod Forces
+pub mod Recovering
 pub mod Answers
 pub mod Rising
 pub mod steps

@@ -14,7 +14,7 @@ use Rattle.rename_ref.specs.Conditions.{name_of}
 use Rattle.rename_ref.specs.declared.judgement.Cond.{Cond}
 use Rattle.ftn_tool.specs.declared.verdict.Point.{Point}
 use Rattle.ftn_tool.specs.declared.verdict.Verdict.{Verdict}
-use Rattle.ftn_tool.specs.declared.verdict.Verdict.TheVariants.{Past, Broken, NotBuilt, Refused, Checked, Changed}
+use Rattle.ftn_tool.specs.declared.verdict.Verdict.TheVariants.{Waiting, Past, Broken, NotBuilt, Refused, Checked, Changed}
 
 -- a line of the output
 abbrev pub line : List ℕ → List ℕ
@@ -66,6 +66,23 @@ ok_line files units = line (codes "ok " ++ decimal files ++ codes " files, " ++ 
 abbrev pub applying_line : ℕ → List ℕ
 applying_line files = line (codes "applying " ++ decimal files ++ codes " files")
 
+-- where a plan file waits for recovery
+abbrev pub pending_line : List ℕ
+pending_line = line (codes "pending")
+
+abbrev pub nothing_line : List ℕ
+nothing_line = line (codes "nothing to recover")
+
+abbrev pub recovering_line : ℕ → List ℕ
+recovering_line files = line (codes "recovering " ++ decimal files ++ codes " files")
+
+abbrev pub plan_limit_line : List ℕ
+plan_limit_line = line (codes "limit plan")
+
+-- the plan file's bytes are no plan's text: the first field that is broken or cut begins at that offset
+abbrev pub no_plan_line : ℕ → List ℕ
+no_plan_line at = line (codes "fault NotAPlan ftn.plan:" ++ decimal at)
+
 abbrev pub store_fault_line : List ℕ
 store_fault_line = line (codes "store fault")
 
@@ -74,6 +91,7 @@ bad_word_line position = line (codes "bad word " ++ decimal position)
 
 -- the line of a verdict on these files
 abbrev pub line_of : List File → Verdict → List ℕ
+line_of files Waiting = pending_line
 line_of files (Past which) = limit_line which
 line_of files (Broken fault) = fault_line files fault
 line_of files NotBuilt = not_built_line

@@ -14,22 +14,25 @@ use Rattle.free_scan.specs.declared.first_form.program.Program.{Program}
 use Rattle.ftn_tree.specs.ProjectLimits.{limit_of}
 use Rattle.ftn_tree.specs.declared.token.Token.{Token}
 use Rattle.ftn_tree.specs.declared.unit.FileTree.{FileTree}
+use Rattle.plan_store.specs.Found.{HasPlanText}
+use Rattle.plan_store.specs.Middle.{HasNoPlan}
 use Rattle.rename_ref.specs.Conditions.{judged}
 use Rattle.rename_ref.specs.declared.judgement.Judgement.{Judgement}
 use Rattle.rename_ref.specs.declared.judgement.Judgement.TheVariants.{Refuse, Accept}
 use Rattle.rename_ref.specs.declared.rename.Rename.{Rename}
-use Rattle.ftn_tool.specs.declared.command.Command.{Command}
-use Rattle.ftn_tool.specs.declared.command.Command.TheVariants as commands
+use Rattle.ftn_tool.specs.declared.command.ProjectCommand.{ProjectCommand}
+use Rattle.ftn_tool.specs.declared.command.ProjectCommand.TheVariants as commands
 use Rattle.ftn_tool.specs.declared.command.Request.TheVariants as requests
 use Rattle.ftn_tool.specs.declared.verdict.Point.{Point}
 use Rattle.ftn_tool.specs.declared.verdict.Verdict.{Verdict}
-use Rattle.ftn_tool.specs.declared.verdict.Verdict.TheVariants.{Past, Broken, NotBuilt, Refused, Checked, Changed}
-use Rattle.ftn_tool.specs.BuiltFaults.{AreTreesOf, AreSoundTrees, IsProjectFault, IsSound, units_of}
+use Rattle.ftn_tool.specs.declared.verdict.Verdict.TheVariants.{Waiting, Past, Broken, NotBuilt, Refused, Checked, Changed}
+use Rattle.ftn_tool.specs.BuiltFaults.{AreSoundTrees, IsProjectFault, IsSound, units_of}
 use Rattle.ftn_tool.specs.Commands.{edition_of, rename_in}
 
 -- ---- the status, and the files that have new texts
 
 abbrev pub status_of : Verdict → Status
+status_of Waiting = status.Pending
 status_of (Past which) = status.Limit
 status_of (Broken fault) = status.BadProject
 status_of NotBuilt = status.BadProject
@@ -38,6 +41,7 @@ status_of (Checked count units) = status.Done
 status_of (Changed name text) = status.Done
 
 abbrev pub changed_by : Verdict → List File
+changed_by Waiting = []
 changed_by (Past which) = []
 changed_by (Broken fault) = []
 changed_by NotBuilt = []
@@ -98,18 +102,22 @@ GivesOrder order files verdict =
 -- ---- commands
 
 -- what a project without a fault gives
-abbrev pub GivesSound : Command → List File → Verdict → Type 0
+abbrev pub GivesSound : ProjectCommand → List File → Verdict → Type 0
 GivesSound (commands.Ask requests.Check edition) files verdict = IsChecked edition files verdict
 GivesSound (commands.Apply order edition) files verdict = GivesOrder (rename_in order) files verdict
 
 -- what the project of these files gives: the limit that it passes, or its first fault, or what it gives without one
-abbrev pub Gives : Command → List File → Verdict → Type 0
+abbrev pub Gives : ProjectCommand → List File → Verdict → Type 0
 Gives command files verdict =
     ((which : Limit) × (limit_of files ≡ Some which) × (verdict ≡ Past which))
     ⊎ ((limit_of files ≡ None)
     × (((fault : Fault) × IsProjectFault (edition_of command) files fault × (verdict ≡ Broken fault))
     ⊎ (IsSound (edition_of command) files × GivesSound command files verdict)))
 
--- the verdict on a command over these files
-abbrev pub IsVerdict : Command → List File → Verdict → Type 0
-IsVerdict command files verdict = Gives command (project files) verdict
+-- there is a plan file
+abbrev pub HasPlan : List File → Type 0
+HasPlan files = (text : List ℕ) × HasPlanText files text
+
+-- the verdict on a command over these files: it waits where there is a plan file, and else it is what their project gives
+abbrev pub IsVerdict : ProjectCommand → List File → Verdict → Type 0
+IsVerdict command files verdict = (HasPlan files × (verdict ≡ Waiting)) ⊎ (HasNoPlan files × Gives command (project files) verdict)

@@ -1,5 +1,5 @@
 -- Commands, as rows of tests for their words, and the position of a bad word.
-use Rattle.std.specs.Prelude.{ℕ, zero, suc, ◌+◌, ◌^◌, Bool, true, false, not, ◌&&◌, ◌==◌, nat_lt, List, [], ◌∷◌, length, take, drop, codes, Option, Some, None, Result, Ok, Err, if◌then◌else◌, unwrap_or, slice_get}
+use Rattle.std.specs.Prelude.{ℕ, zero, suc, ◌+◌, ◌^◌, Bool, true, false, not, ◌&&◌, ◌==◌, nat_lt, List, [], ◌∷◌, length, take, codes, Option, Some, None, Result, Ok, Err, if◌then◌else◌, unwrap_or, slice_get}
 use Rattle.std.specs.List.{list_all, list_any, find}
 use Rattle.std.specs.Str.{bytes_eq}
 use Rattle.ftn_base.specs.Letters.{is_digit}
@@ -8,7 +8,8 @@ use Rattle.free_scan.specs.Spelling.{number_of}
 use Rattle.ftn_tool.specs.declared.command.Command.{Command}
 use Rattle.ftn_base.specs.declared.name.Edition.{Edition}
 use Rattle.ftn_base.specs.declared.name.Edition.TheVariants.{F90, F2003}
-use Rattle.ftn_tool.specs.declared.command.Command.TheVariants.{Apply, Ask}
+use Rattle.ftn_tool.specs.declared.command.Command.TheVariants.{Project, Recover}
+use Rattle.ftn_tool.specs.declared.command.ProjectCommand.TheVariants.{Apply, Ask}
 use Rattle.ftn_tool.specs.declared.command.Request.TheVariants.{Check}
 use Rattle.ftn_tool.specs.declared.command.Order.TheVariants.{Rename}
 
@@ -45,6 +46,10 @@ is_count_word word = is_numeral word && nat_lt (number_of word) (2 ^ 32)
 abbrev pub is_edition : Word → Bool
 is_edition word = is_text (codes "--edition=2003") word
 
+-- a word after that first one names an edition; not after `recover`, which reads no project
+abbrev pub names_edition : Word → Word → Bool
+names_edition first word = not (is_text (codes "recover") first) && is_edition word
+
 -- without the first word that passes the test
 abbrev pub without_first : (Word → Bool) → List Word → List Word
 without_first test [] = []
@@ -53,10 +58,11 @@ without_first test (word ∷ words) = if test word then words else word ∷ with
 -- `--edition=2003` may stand once, anywhere after the first word: the words without it
 abbrev pub plain : List Word → List Word
 plain [] = []
-plain (first ∷ words) = first ∷ without_first is_edition words
+plain (first ∷ words) = first ∷ without_first (names_edition first) words
 
 abbrev pub edition_in : List Word → Edition
-edition_in words = if list_any is_edition (drop 1 words) then F2003 else F90
+edition_in [] = F90
+edition_in (first ∷ words) = if list_any (names_edition first) words then F2003 else F90
 
 -- ---- the words of one kind of command: a test for each, and the command that they mean
 
@@ -68,17 +74,21 @@ nth words i = unwrap_or (slice_get words i) []
 
 -- check
 abbrev pub check_row : Row
-check_row = (is_text (codes "check") ∷ [], λ edition words. Ask Check edition)
+check_row = (is_text (codes "check") ∷ [], λ edition words. Project (Ask Check edition))
+
+-- recover
+abbrev pub recover_row : Row
+recover_row = (is_text (codes "recover") ∷ [], λ edition words. Recover)
 
 -- apply rename FILE LINE COLUMN NEW
 abbrev pub rename_row : Row
 rename_row = (
   is_text (codes "apply") ∷ is_text (codes "rename") ∷ is_file_word ∷ is_count_word ∷ is_count_word ∷ is_plain_word ∷ [],
-  λ edition words. Apply (Rename (record { file = nth words 2; line = number_of (nth words 3); column = number_of (nth words 4); new = nth words 5 })) edition,
+  λ edition words. Project (Apply (Rename (record { file = nth words 2; line = number_of (nth words 3); column = number_of (nth words 4); new = nth words 5 })) edition),
 )
 
 abbrev pub commands : List Row
-commands = check_row ∷ rename_row ∷ []
+commands = check_row ∷ recover_row ∷ rename_row ∷ []
 
 -- the words are the first words of such a command
 abbrev pub begins : List (Word → Bool) → List Word → Bool

@@ -2,7 +2,7 @@
 
 ghost use Rattle.std.specs.List.{list_all};
 ghost use Rattle.std.specs.Option.{option_copied};
-ghost use Rattle.std.specs.Prelude.{◌≡◌, ◌+◌, ◌<◌, ◌^◌, [], map, slice_get, Some};
+ghost use Rattle.std.specs.Prelude.{◌≡◌, ◌+◌, ◌<◌, ◌^◌, [], drop, map, slice_get, Some};
 ghost use Rattle.std.specs.String.{string_bytes};
 ghost use Rattle.ftn_tool.specs.Commands.{edition_of};
 ghost use Rattle.ftn_tool.specs.Words as spec;
@@ -30,22 +30,31 @@ pub enum Request {
     Check,
 }
 
-/// What a command line asks for, and the edition that the files of the project are read by.
+/// A command over the files of a project, and the edition that they are read by.
 #[derive(Drop)]
-pub enum Command {
+pub enum ProjectCommand {
     /// `check`
     Ask(Request, Edition),
     /// `apply ORDER ..`
     Apply(Order, Edition),
 }
 
-impl Command {
+/// What a command line asks for.
+#[derive(Drop)]
+pub enum Command {
+    /// A command over the files of a project.
+    Project(ProjectCommand),
+    /// `recover`: completes a change that was stopped.
+    Recover,
+}
+
+impl ProjectCommand {
     /// The edition that the files of the project are read by.
     pub fn edition(&self) -> Edition
         ensures { result ≡ edition_of self.now }
     {
         match self {
-            Command::Ask(_, edition) | Command::Apply(_, edition) => *edition,
+            ProjectCommand::Ask(_, edition) | ProjectCommand::Apply(_, edition) => *edition,
         }
     }
 }
@@ -76,7 +85,8 @@ impl From<ftn_base::NoMemory> for WordsFault {
     }
 }
 
-/// The command that the words mean, the program's name left out. `--edition=2003` may stand anywhere after the first word, once.
+/// The command that the words mean, the program's name left out. `--edition=2003` may stand anywhere after the first word, once,
+/// but not after `recover`.
 pub fn read_words(alloc: Global, words: &[String]) -> Result<Command, WordsFault>
     ensures { Finds (λ command. command) result (spec.command_of (map string_bytes words.now)) }
 {
@@ -92,14 +102,31 @@ pub fn read_words(alloc: Global, words: &[String]) -> Result<Command, WordsFault
 fn option_at(words: &[String]) -> Option<usize>
     ensures { result ≡ reading.option_at (map string_bytes words.now) }
 {
+    match bytes_at(words, 0) {
+        Some(first) => option_after(first, words),
+        None => None,
+    }
+}
+
+/// The same where the first word is this one.
+fn option_after(first: &[u8], words: &[String]) -> Option<usize>
+    ensures { result ≡ reading.edition_from (spec.names_edition first.now) 1 (drop 1 (map string_bytes words.now)) }
+{
     let mut at = 1;
     'words: while at < words.len() {
-        if is_edition(words[at].as_bytes()) {
+        if names_edition(first, words[at].as_bytes()) {
             return Some(at);
         }
         at += 1;
     }
     None
+}
+
+/// Whether a word after that first one names an edition.
+fn names_edition(first: &[u8], word: &[u8]) -> bool
+    ensures { result ≡ spec.names_edition first.now word.now }
+{
+    !is_text(b"recover", first) && is_edition(word)
 }
 
 fn is_edition(word: &[u8]) -> bool
@@ -138,10 +165,22 @@ fn position_of(option: Option<usize>, position: u32) -> u32
 fn read(alloc: Global, words: &[String], option: Option<usize>) -> Result<Command, WordsFault>
     ensures { Finds (λ command. command) result (reading.read (reading.edition_by option) (reading.plain option (map string_bytes words.now))) }
 {
-    if is_check(words, option) {
+    if is_word(words, option, b"check") {
         end_at(words, option, 1)?;
-        return Ok(Command::Ask(Request::Check, edition_by(option)));
+        let edition = edition_by(option);
+        return Ok(Command::Project(ProjectCommand::Ask(Request::Check, edition)));
     }
+    if is_word(words, option, b"recover") {
+        end_at(words, option, 1)?;
+        return Ok(Command::Recover);
+    }
+    read_apply(alloc, words, option)
+}
+
+/// The order that these words mean without the option.
+fn read_apply(alloc: Global, words: &[String], option: Option<usize>) -> Result<Command, WordsFault>
+    ensures { Finds (λ command. command) result (reading.read_apply (reading.edition_by option) (reading.plain option (map string_bytes words.now))) }
+{
     text_at(words, option, 0, b"apply")?;
     text_at(words, option, 1, b"rename")?;
     let file = file_at(alloc, words, option, 2)?;
@@ -155,14 +194,16 @@ fn read(alloc: Global, words: &[String], option: Option<usize>) -> Result<Comman
         column,
         new,
     };
-    Ok(Command::Apply(Order::Rename(order), edition_by(option)))
+    let edition = edition_by(option);
+    Ok(Command::Project(ProjectCommand::Apply(Order::Rename(order), edition)))
 }
 
-fn is_check(words: &[String], option: Option<usize>) -> bool
-    ensures { result ≡ reading.is_check (slice_get (reading.plain option (map string_bytes words.now)) 0) }
+/// Whether the first word is this one.
+fn is_word(words: &[String], option: Option<usize>, text: &[u8]) -> bool
+    ensures { result ≡ reading.is_word text.now (slice_get (reading.plain option (map string_bytes words.now)) 0) }
 {
     match word_at(words, option, 0) {
-        Some(word) => is_text(b"check", word),
+        Some(word) => is_text(text, word),
         None => false,
     }
 }

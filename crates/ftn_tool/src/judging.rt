@@ -9,7 +9,7 @@ ghost use Rattle.ftn_tool.specs.Commands.{rename_in};
 ghost use Rattle.ftn_tool.specs.Verdicts.{Gives, GivesOrder, checked, first_point, verdict_of};
 
 use crate::checking::sound_trees;
-use crate::command::{Command, Order, Request};
+use crate::command::{Order, ProjectCommand, Request};
 use crate::verdict::{Point, Verdict};
 use free_scan::first_form::read_first_form;
 use ftn_base::{Bytes, FileName, MOST_FIRST_FORM_BYTES, NoMemory};
@@ -20,7 +20,7 @@ use std::alloc::Global;
 /// The verdict on the command, where these are the project's files and pass no limit.
 pub fn verdict_on(
     alloc: Global,
-    command: &Command,
+    command: &ProjectCommand,
     files: &[(FileName, Bytes)],
 ) -> Result<Verdict, NoMemory>
     requires { limit_of files.now ≡ None }
@@ -32,8 +32,8 @@ pub fn verdict_on(
         Err(TableFault::NoMemory) => return Err(NoMemory),
     };
     match command {
-        Command::Ask(Request::Check, _) => Ok(checked(files.len(), &trees)),
-        Command::Apply(order, _) => verdict_on_order(alloc, order, files),
+        ProjectCommand::Ask(Request::Check, _) => Ok(checked(files.len(), &trees)),
+        ProjectCommand::Apply(order, _) => verdict_on_order(alloc, order, files),
     }
 }
 

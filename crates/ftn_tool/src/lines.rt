@@ -6,10 +6,12 @@ ghost use Rattle.std.specs.Prelude.{◌≡◌, ◌+◌, ◌++◌, ◌<◌, ◌^�
 ghost use Rattle.std.specs.Fmt.{decimal};
 ghost use Rattle.ftn_base.specs.Places as places;
 ghost use Rattle.ftn_tool.specs.Lines as spec;
+ghost use Rattle.ftn_tool.specs.Recovering.{due_line};
 ghost use Rattle.ftn_tool.specs.steps.Fronts.{IsSmall};
 
 use crate::verdict::{Point, Verdict};
 use ftn_base::{Bytes, Fault, FileName, Limit, NoMemory, Span, line_and_column};
+use plan_store::Found;
 use rename_ref::Cond;
 use std::alloc::Global;
 
@@ -18,6 +20,15 @@ const NOT_BUILT: &[u8] = b"fault NotBuilt -\n";
 
 /// What is written where the store failed.
 pub const STORE_FAULT: &[u8] = b"store fault\n";
+
+/// What is written where a plan file waits for recovery.
+pub const PENDING: &[u8] = b"pending\n";
+
+/// What is written where there is nothing to recover.
+const NOTHING: &[u8] = b"nothing to recover\n";
+
+/// What is written where a plan file is too long.
+const PLAN_LIMIT: &[u8] = b"limit plan\n";
 
 /// What is written where the project passes a limit.
 pub fn limit_line(which: Limit) -> &'static [u8]
@@ -51,6 +62,7 @@ pub fn verdict_line(
     ensures { IfOk result (λ made. made ≡ spec.line_of files.now verdict.now) }
 {
     match verdict {
+        Verdict::Waiting => Ok(Bytes::from_slice(alloc, PENDING)?),
         Verdict::Past(which) => Ok(Bytes::from_slice(alloc, limit_line(*which))?),
         Verdict::Broken(fault) => fault_line(alloc, files, fault),
         Verdict::NotBuilt => Ok(Bytes::from_slice(alloc, NOT_BUILT)?),
@@ -58,6 +70,40 @@ pub fn verdict_line(
         Verdict::Checked { files, units } => ok_line(alloc, *files, *units),
         Verdict::Changed { .. } => applying_line(alloc, 1),
     }
+}
+
+/// What is written with what is found of a plan file.
+pub fn found_line(alloc: Global, found: &Found) -> Result<Bytes, NoMemory>
+    ensures { IfOk result (λ made. made ≡ due_line found.now) }
+{
+    match found {
+        Found::Nothing => Ok(Bytes::from_slice(alloc, NOTHING)?),
+        Found::TooLong => Ok(Bytes::from_slice(alloc, PLAN_LIMIT)?),
+        Found::Broken(at) => no_plan_line(alloc, *at),
+        Found::Planned(plan) => recovering_line(alloc, plan.files.len()),
+    }
+}
+
+/// What is written where a plan file's bytes are no plan's text, by the offset of the first field that is broken or cut.
+fn no_plan_line(alloc: Global, at: u32) -> Result<Bytes, NoMemory>
+    ensures { IfOk result (λ made. made ≡ spec.no_plan_line at) }
+{
+    let at = at.to_string(alloc)?;
+    let mut made = Vec::from_slice(alloc, b"fault NotAPlan ftn.plan:")?;
+    made.extend_from_slice(at.as_bytes())?;
+    made.extend_from_slice(b"\n")?;
+    Ok(Bytes::from_vec(made))
+}
+
+/// What is written before a recovery of so many files.
+fn recovering_line(alloc: Global, files: usize) -> Result<Bytes, NoMemory>
+    ensures { IfOk result (λ made. made ≡ spec.recovering_line files) }
+{
+    let files = files.to_string(alloc)?;
+    let mut made = Vec::from_slice(alloc, b"recovering ")?;
+    made.extend_from_slice(files.as_bytes())?;
+    made.extend_from_slice(b" files\n")?;
+    Ok(Bytes::from_vec(made))
 }
 
 /// What is written where a condition fails.

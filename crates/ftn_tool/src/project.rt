@@ -4,18 +4,22 @@ ghost use Rattle.std.specs.List.{filter};
 ghost use Rattle.std.specs.Prelude.{◌≡◌, ◌≤◌, ◌++◌, ◌∷◌, [], List, None, true, length, map, IfErr, IfOk, IfSome, IsErrOf, OnOk};
 ghost use Rattle.ftn_base.specs.Files.{File, IsInOrder, is_source, project};
 ghost use Rattle.ftn_base.specs.Limits.{most_project_bytes};
+ghost use Rattle.plan_store.specs.Middle.{HasNoPlan};
 ghost use Rattle.store_io.specs.Counts.{Rose};
 ghost use Rattle.ftn_tree.specs.ProjectLimits.{limit_of, past_bytes};
 ghost use Rattle.ftn_tool.specs.steps.Fronts as spec;
 
 use crate::order::put_in_order;
 use ftn_base::{Bytes, FileName, Limit, MOST_FILE_BYTES, MOST_FILES, MOST_PROJECT_BYTES};
+use plan_store::{is_listed, plan_name};
 use std::alloc::Global;
 use store_io::{ListFault, ReadFault, Store};
 
 /// Why a project could not be read.
 #[derive(Clone, Copy)]
 pub enum ProjectFault {
+    /// A plan file waits for recovery.
+    Waiting,
     /// The project passes this limit.
     Past(Limit),
     /// The store failed, and its count of faults rose.
@@ -25,7 +29,7 @@ pub enum ProjectFault {
 }
 
 /// The names and texts of the project files of the store, in byte order of names, each once: a store that doesn't tell
-/// its files may list them in any order, and more than once. It fails at the first limit
+/// its files may list them in any order, and more than once. It fails where a plan file is listed, and then at the first limit
 /// that they pass: how many they are is counted before any is read, and each file is measured when it is read,
 /// first by itself and then with those before it.
 pub fn project_files<S: Store>(
@@ -34,17 +38,25 @@ pub fn project_files<S: Store>(
 ) -> Result<Vec<(FileName, Bytes)>, ProjectFault>
     ensures files { IfOk result (λ found. IfSome (S.files store.old) (λ files. found.items ≡ map spec.front_of (project files))) }
     ensures within { IfOk result (λ found. limit_of found.items ≡ None) }
-    ensures past { IfErr result (λ fault. IfSome (S.files store.old) (λ files. spec.IsPassed (limit_of (map spec.front_of (project files))) fault)) }
+    ensures sources { IfOk result (λ found. spec.are_sources found.items ≡ true) }
+    ensures planless { OnOk result (IfSome (S.files store.old) HasNoPlan) }
+    ensures stopped { IfErr result (λ fault. IfSome (S.files store.old) (spec.IsStopped fault)) }
     ensures order { OnOk result (IfSome (S.files store.old) IsInOrder) }
     ensures same { S.files store.new ≡ S.files store.old }
     ensures later { S.faults store.old ≤ S.faults store.new }
     ensures failed { IsErrOf result ProjectFault.StoreFailed → Rose (S.faults store.old) (S.faults store.new) }
 {
+    let Ok(plan) = plan_name(alloc) else {
+        return Err(ProjectFault::NoMemory);
+    };
     let mut names = match store.list() {
         Ok(names) => names,
         Err(ListFault::Failed) => return Err(ProjectFault::StoreFailed),
         Err(ListFault::NoMemory) => return Err(ProjectFault::NoMemory),
     };
+    if is_listed(&names, &plan) {
+        return Err(ProjectFault::Waiting);
+    }
     put_in_order(&mut names);
     if count_sources(&names) > MOST_FILES as usize {
         return Err(ProjectFault::Past(Limit::Files));
@@ -60,12 +72,14 @@ fn count_sources(names: &[FileName]) -> usize
 }
 
 /// Those of these files that are project files and are there.
+#[tactic(auto, using(crate::proofs::ProjectFiles::sources_more))]
 fn read_files<S: Store>(
     alloc: Global,
     store: &mut S,
     names: &[FileName],
 ) -> Result<Vec<(FileName, Bytes)>, ProjectFault>
     ensures files { IfOk result (λ found. IfSome (S.files store.old) (λ files. found.items ≡ spec.fronts files names.now)) }
+    ensures sources { IfOk result (λ found. spec.are_sources found.items ≡ true) }
     ensures few { IfOk result (λ found. length found.items ≤ length (filter is_source names.now)) }
     ensures within { IfOk result (λ found. past_bytes 0 found.items ≡ None) }
     ensures past { IfErr result (λ fault. IfSome (S.files store.old) (λ files. spec.IsPassed (past_bytes 0 (spec.fronts files names.now)) fault)) }

@@ -15,6 +15,8 @@ pub struct Point {
 /// What becomes of a command over the files of a project.
 #[derive(Drop)]
 pub enum Verdict {
+    /// A plan file waits for recovery.
+    Waiting,
     /// The project passes this limit.
     Past(Limit),
     /// The project has this fault first.

@@ -1,5 +1,5 @@
 -- What is found in files one after another. This serves the proof of the code.
-use Rattle.std.specs.Prelude.{ℕ, List, Option, Some, None}
+use Rattle.std.specs.Prelude.{ℕ, List, Some, None}
 use Rattle.ftn_base.specs.Files.{File}
 use Rattle.ftn_base.specs.declared.fault.Fault.{Fault}
 use Rattle.ftn_base.specs.declared.fault.FaultKind.{FaultKind}

@@ -1,12 +1,16 @@
 -- Reading the files of a project. Of each text at most one byte more is read than a file may have. This serves the proof of the code.
-use Rattle.std.specs.Prelude.{◌≡◌, ℕ, ◌+◌, ◌≤◌, nat_lt, List, [], ◌∷◌, length, take, Option, Some, None, Result, Ok, Err, if◌then◌else◌}
+use Rattle.std.specs.Prelude.{◌≡◌, ℕ, ◌+◌, ◌≤◌, nat_lt, Bool, List, [], ◌∷◌, length, map, take, Option, Some, None, Result, Ok, Err, if◌then◌else◌}
 use Rattle.std.specs.Option.{option_map}
-use Rattle.ftn_base.specs.Files.{File, is_source, text_of}
+use Rattle.std.specs.List.{list_all}
+use Rattle.ftn_base.specs.Files.{File, is_source, project, text_of}
 use Rattle.ftn_base.specs.Limits.{most_file_bytes, most_project_bytes}
 use Rattle.ftn_base.specs.declared.limits.Limit.{Limit}
 use Rattle.ftn_base.specs.declared.limits.Limit.TheVariants as limits
+use Rattle.ftn_tree.specs.ProjectLimits.{limit_of}
+use Rattle.plan_store.specs.Middle.{HasNoPlan}
 use Rattle.ftn_tool.specs.declared.project.ProjectFault.{ProjectFault}
 use Rattle.ftn_tool.specs.declared.project.ProjectFault.TheVariants as faults
+use Rattle.ftn_tool.specs.Verdicts.{HasPlan}
 
 abbrev pub IsSmall : File → Type 0
 IsSmall file = length file.1 ≤ most_file_bytes
@@ -37,13 +41,26 @@ size_with before text =
     else if nat_lt most_project_bytes (before + length text) then Err limits.Project
     else Ok (before + length text)
 
--- where a fault is a limit, it is the one that is passed
+-- where a fault is a limit, it is the one that is passed, and none is a plan file
 abbrev pub IsPassed : Option Limit → ProjectFault → Type 0
 IsPassed passed (faults.Past which) = passed ≡ Some which
+IsPassed passed faults.Waiting = ⊥
 IsPassed passed faults.StoreFailed = Unit {0}
 IsPassed passed faults.NoMemory = Unit {0}
 
 abbrev pub IsNoLimit : ProjectFault → Type 0
 IsNoLimit (faults.Past which) = ⊥
+IsNoLimit faults.Waiting = ⊥
 IsNoLimit faults.StoreFailed = Unit {0}
 IsNoLimit faults.NoMemory = Unit {0}
+
+-- why the project of these files isn't read: there is a plan file; or there is none, and a limit is passed
+abbrev pub IsStopped : ProjectFault → List File → Type 0
+IsStopped faults.Waiting files = HasPlan files
+IsStopped (faults.Past which) files = HasNoPlan files × (limit_of (map front_of (project files)) ≡ Some which)
+IsStopped faults.StoreFailed files = Unit {0}
+IsStopped faults.NoMemory files = Unit {0}
+
+-- all these are project files
+abbrev pub are_sources : List File → Bool
+are_sources files = list_all (λ file. is_source file.0) files

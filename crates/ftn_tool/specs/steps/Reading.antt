@@ -5,12 +5,13 @@ use Rattle.free_scan.specs.Spelling.{number_of}
 use Rattle.ftn_tool.specs.declared.command.Command.{Command}
 use Rattle.ftn_base.specs.declared.name.Edition.{Edition}
 use Rattle.ftn_base.specs.declared.name.Edition.TheVariants.{F90, F2003}
-use Rattle.ftn_tool.specs.declared.command.Command.TheVariants.{Apply, Ask}
+use Rattle.ftn_tool.specs.declared.command.Command.TheVariants.{Project, Recover}
+use Rattle.ftn_tool.specs.declared.command.ProjectCommand.TheVariants.{Apply, Ask}
 use Rattle.ftn_tool.specs.declared.command.Request.TheVariants.{Check}
 use Rattle.ftn_tool.specs.declared.command.Order.TheVariants.{Rename}
 use Rattle.ftn_tool.specs.declared.command.WordsFault.{WordsFault}
 use Rattle.ftn_tool.specs.declared.command.WordsFault.TheVariants as faults
-use Rattle.ftn_tool.specs.Words.{Word, is_edition, is_text, is_file_word, is_count_word, is_plain_word}
+use Rattle.ftn_tool.specs.Words.{Word, names_edition, is_text, is_file_word, is_count_word, is_plain_word}
 
 infixl 10 ◌>>=◌
 abbrev pub ◌>>=◌ : {A B : Type 0} → Result A ℕ → (A → Result B ℕ) → Result B ℕ
@@ -41,7 +42,7 @@ abbrev pub count_at : List Word → ℕ → Result ℕ ℕ
 count_at words at = counted at (slice_get words at)
 
 abbrev pub rename_of : Edition → Word → ℕ → ℕ → Word → Command
-rename_of edition file line column new = Apply (Rename (record { file = file; line = line; column = column; new = new })) edition
+rename_of edition file line column new = Project (Apply (Rename (record { file = file; line = line; column = column; new = new })) edition)
 
 abbrev pub read_apply : Edition → List Word → Result Command ℕ
 read_apply edition words =
@@ -54,24 +55,30 @@ read_apply edition words =
     ended 6 (slice_get words 6) >>= (λ no_more.
     Ok (rename_of edition file line column new))))))))
 
-abbrev pub is_check : Option Word → Bool
-is_check None = false
-is_check (Some word) = is_text (codes "check") word
+abbrev pub is_word : Word → Option Word → Bool
+is_word text None = false
+is_word text (Some word) = is_text text word
 
 abbrev pub read : Edition → List Word → Result Command ℕ
 read edition words =
-    if is_check (slice_get words 0) then ended 1 (slice_get words 1) >>= (λ no_more. Ok (Ask Check edition))
+    if is_word (codes "check") (slice_get words 0) then ended 1 (slice_get words 1) >>= (λ no_more. Ok (Project (Ask Check edition)))
+    else if is_word (codes "recover") (slice_get words 0) then ended 1 (slice_get words 1) >>= (λ no_more. Ok Recover)
     else read_apply edition words
 
 -- ---- the edition
 
--- the place of the first word that names an edition, where the first of these has this place
-abbrev pub edition_from : ℕ → List Word → Option ℕ
-edition_from at [] = None
-edition_from at (word ∷ words) = if is_edition word then Some at else edition_from (at + 1) words
+-- the place of the first word that passes the test, where the first of these has this place
+abbrev pub edition_from : (Word → Bool) → ℕ → List Word → Option ℕ
+edition_from test at [] = None
+edition_from test at (word ∷ words) = if test word then Some at else edition_from test (at + 1) words
 
+abbrev pub option_after : List Word → Option Word → Option ℕ
+option_after words None = None
+option_after words (Some first) = edition_from (names_edition first) 1 (drop 1 words)
+
+-- the place of the first word that names an edition
 abbrev pub option_at : List Word → Option ℕ
-option_at words = edition_from 1 (drop 1 words)
+option_at words = option_after words (slice_get words 0)
 
 abbrev pub edition_by : Option ℕ → Edition
 edition_by None = F90

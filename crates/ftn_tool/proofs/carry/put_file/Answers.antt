@@ -1,19 +1,4 @@
-use Rattle.std.proofs.Common.{refl}
-use Rattle.store_io.specs.Told.{Takes}
-use Rattle.store_io.proofs.Taking.{takes_both}
-use Rattle.ftn_tool.specs.Lines.{store_fault_line}
-use Rattle.ftn_tool.proofs.Writing.{rose_since, takes_then_front}
 use Rattle.ftn_tool.proofs.carry.put_file.Goals as goal
 
-pub returns-in-Err-replace-clause-put : goal.returns-in-Err-replace-clause-put
-returns-in-Err-replace-clause-put g c =
-    let announced : Takes c.args.line.now (g.O.Sink.taken c.args.out.now) (g.O.Sink.taken c.announce.new.out) = c.in_default.ensures.whole in
-    rw c.say.ensures.status (
-      rw c.prepare.ensures.faults at (c.in-Err-replace.ensures.failed refl),
-      rw (c.into_vec.ensures, c.prepare.ensures.same) at c.in-Err-replace.ensures.kept,
-      record {
-        front = takes_then_front c.args.line.now store_fault_line _ _ _ announced c.say.ensures.front;
-        whole = λ holds. takes_both c.args.line.now store_fault_line _ _ _ announced
-            (c.say.ensures.whole (λ rose. holds.0 (rose_since _ _ _ c.announce.ensures.later rose)) (λ rose. holds.1 (rose_since _ _ _ c.announce.ensures.wants_later rose)));
-      },
-    )
+pub returns-in-Ok-clause-put : goal.returns-in-Ok-clause-put
+returns-in-Ok-clause-put g c = rw c.in-Ok.ensures.files at c.put_change.ensures.put
