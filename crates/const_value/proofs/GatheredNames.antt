@@ -36,14 +36,14 @@ use Rattle.const_value.proofs.DataNumbers.{datum_owner}
 
 -- a type as both tell it
 abbrev pub as_typed : TypeSpec × Declared → TypedAs
-as_typed typing = typed_as typing.1.length typing.0
+as_typed typing = typed_as typing.1.name typing.1.length typing.0
 
 typings : (all : List Declared) → filter_map typing_in all ≡ map as_typed (filter_map if_typed all)
 typings [] = refl
 typings (d ∷ all) = by d.ty refl (typings all) where
   by : (ty : Option TypeSpec) → d.ty ≡ ty → filter_map typing_in all ≡ map as_typed (filter_map if_typed all) → filter_map typing_in (d ∷ all) ≡ map as_typed (filter_map if_typed (d ∷ all))
   by None is rest = rw is rest
-  by (Some ty) is rest = rw is (ap (λ (xs : List TypedAs). typed_as d.length ty ∷ xs) rest)
+  by (Some ty) is rest = rw is (ap (λ (xs : List TypedAs). typed_as d.name d.length ty ∷ xs) rest)
 
 pub typing_is : (files : List FileTree) (d : Datum) → (written_of files d).typing ≡ option_map as_typed (typing_of files d.scope d.name)
 typing_is files d =

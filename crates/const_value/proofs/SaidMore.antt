@@ -7,11 +7,11 @@ use Rattle.ftn_tree.specs.Sayings.{Saying, same_name, answer}
 use Rattle.ftn_tree.specs.DeclaredEntities.{may_be_own}
 use Rattle.ftn_tree.specs.NameFaults.{opens_name}
 use Rattle.const_value.specs.declared.said.Said.{Said}
-use Rattle.const_value.specs.steps.Said.{bars, said_in, token_of, with_saying}
+use Rattle.const_value.specs.steps.Said.{bars, defines, gives, said_in, token_of, with_saying}
 use Rattle.const_value.proofs.FirstOfList.{found_more}
 
-abbrev made : Option ℕ → Option ℕ → Bool → Bool → Said
-made opened first answer barred = record { opened = opened; first = first; answer = answer; barred = barred }
+abbrev made : Option ℕ → Option ℕ → Bool → Bool → Bool → Bool → Said
+made opened first given defined answer barred = record { opened = opened; first = first; given = given; defined = defined; answer = answer; barred = barred }
 
 any_more : (p : Saying → Bool) (all : List Saying) (s : Saying) → list_any p (all ++ s ∷ []) ≡ (list_any p all || p s)
 any_more p all s = list_any-append p all (s ∷ []) ∙ by (list_any p all) (p s) where
@@ -22,10 +22,12 @@ any_more p all s = list_any-append p all (s ∷ []) ∙ by (list_any p all) (p s
 
 pub said_more : (in_block_data : Bool) (all : List Saying) (s : Saying) → said_in in_block_data (all ++ s ∷ []) ≡ with_saying in_block_data (said_in in_block_data all) s
 said_more in_block_data all s =
-    ap₂ (λ o f. made o f (list_any answer (all ++ s ∷ [])) (list_any (bars in_block_data) (all ++ s ∷ [])))
+    ap₂ (λ o f. made o f (list_any gives (all ++ s ∷ [])) (list_any defines (all ++ s ∷ [])) (list_any answer (all ++ s ∷ [])) (list_any (bars in_block_data) (all ++ s ∷ [])))
     (found_more opens_name token_of all s) (found_more (λ s. may_be_own s.said.role) token_of all s)
-    ∙ ap₂ (made (with_saying in_block_data (said_in in_block_data all) s).opened (with_saying in_block_data (said_in in_block_data all) s).first)
-    (any_more answer all s) (any_more (bars in_block_data) all s)
+    ∙ (ap₂ (λ g d. made w.opened w.first g d (list_any answer (all ++ s ∷ [])) (list_any (bars in_block_data) (all ++ s ∷ []))) (any_more gives all s) (any_more defines all s)
+    ∙ ap₂ (made w.opened w.first w.given w.defined) (any_more answer all s) (any_more (bars in_block_data) all s)) where
+      w : Said
+      w = with_saying in_block_data (said_in in_block_data all) s
 
 pub named_more : (in_block_data : Bool) (all : List Saying) (s : Saying) (name : List ℕ)
     → said_in in_block_data (filter (same_name name) (all ++ s ∷ []))

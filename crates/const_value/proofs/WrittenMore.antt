@@ -23,7 +23,7 @@ written_more all d =
 -- ---- what the definitions say of it
 
 abbrev kept : TypeSpec × Declared → TypedAs
-kept typing = typed_as typing.1.length typing.0
+kept typing = typed_as typing.1.name typing.1.length typing.0
 
 pub typing_kept : (files : List FileTree) (d : Datum) → (written_of files d).typing ≡ option_map kept (typing_of files d.scope d.name)
 typing_kept files d = first (declarations_of files d.scope d.name) where
@@ -31,7 +31,7 @@ typing_kept files d = first (declarations_of files d.scope d.name) where
   first [] = refl
   first (one ∷ all) = by one.ty (first all) where
     by : (o : Option TypeSpec) → slice_get (filter_map typing_in all) 0 ≡ option_map kept (slice_get (filter_map if_typed all) 0)
-        → slice_get (cons_option (option_map (typed_as one.length) o) (filter_map typing_in all)) 0
+        → slice_get (cons_option (option_map (typed_as one.name one.length) o) (filter_map typing_in all)) 0
         ≡ option_map kept (slice_get (cons_option (option_map_or (λ ty. Some (ty, one)) o None) (filter_map if_typed all)) 0)
     by None rest = rest
     by (Some ty) rest = refl

@@ -13,8 +13,10 @@ use std::alloc::Global;
 
 /// For each entity the number of the name under which what it holds is declared, and for each name the entity of its scoping unit.
 #[derive(Drop)]
-pub(crate) struct Links {
+pub struct Links {
+    /// For each entity the number of a name.
     pub name_of: Vec<Option<usize>>,
+    /// For each name the number of an entity.
     pub entity_of: Vec<Option<usize>>,
 }
 
@@ -57,11 +59,7 @@ fn put_entity(name: Option<usize>, entity: &Entity, number: usize, entity_of: &m
 }
 
 /// The links between names and entities.
-pub(crate) fn links_of(
-    alloc: Global,
-    names: &Names<'_>,
-    entities: &[Entity],
-) -> Result<Links, NoMemory>
+pub fn links_of(alloc: Global, names: &Names<'_>, entities: &[Entity]) -> Result<Links, NoMemory>
     requires { (scope : ℕ) (name : List ℕ) → IsWithin (length names.now.all.items) (number_at names.now.numbers.items scope name) }
     ensures name_of { IfOk result (λ links. links.name_of.items ≡ map (steps.name_of (number_at names.now.numbers.items)) entities.now) }
     ensures entity_of { IfOk result (λ links. links.entity_of.items ≡ steps.put_all (number_at names.now.numbers.items) 0 (replicate (length names.now.all.items) None) entities.now) }

@@ -15,11 +15,11 @@ use indexmap::IndexMap;
 use std::alloc::Global;
 
 /// The numbers of the names of one scoping unit.
-pub(crate) type Numbers<'a> = IndexMap<&'a [u8], usize>;
+pub type Numbers<'a> = IndexMap<&'a [u8], usize>;
 
 /// A name of a scoping unit.
 #[derive(Clone, Copy)]
-pub(crate) struct Owned {
+pub struct Owned {
     /// The number of the scoping unit.
     pub scope: usize,
     /// The number of its file.
@@ -32,7 +32,7 @@ pub(crate) struct Owned {
 
 /// The names of all scoping units.
 #[derive(Drop)]
-pub(crate) struct Names<'a> {
+pub struct Names<'a> {
     /// Of each scoping unit the numbers of its names.
     pub numbers: Vec<Numbers<'a>>,
     /// The names.
@@ -49,7 +49,7 @@ fn first_byte(name: &[u8]) -> u8
 }
 
 /// The number of the name, where there is one.
-pub(crate) fn number_in(numbers: &Numbers<'_>, name: &[u8]) -> Option<usize>
+pub fn number_in(numbers: &Numbers<'_>, name: &[u8]) -> Option<usize>
     ensures { result ≡ steps.number_in numbers.now name.now }
 {
     numbers.get(name).copied()
@@ -123,7 +123,7 @@ fn push_names<'a>(
 }
 
 /// The names of all scoping units, each with what is said of it there.
-pub(crate) fn names_of<'a>(
+pub fn names_of<'a>(
     alloc: Global,
     scopes: &[Scope],
     said: &[Vec<Saying<'a>>],

@@ -23,25 +23,34 @@ use std::alloc::Global;
 
 /// A project with what its statements declare of names, and what its names denote. The names of its scoping units are numbered.
 #[derive(Drop)]
-pub(crate) struct Project<'a> {
+pub struct Project<'a> {
+    /// The trees of the files.
     pub files: &'a [FileTree],
+    /// Its tables, and what each name denotes.
     pub bound: &'a Bound,
+    /// For each file the entities at its tokens.
     pub rows: Vec<TokenRow>,
+    /// The names of its scoping units.
     pub names: Vec<Owned>,
+    /// For each name what is written for it.
     pub written: Vec<Written<'a>>,
+    /// Which names are those of which entities.
     pub links: Links,
 }
 
 /// A type without its length (Fortran 90, 4.3).
 #[derive(Clone, Copy, PartialEq, Eq)]
-pub(crate) enum Sort {
+pub enum Sort {
+    /// Integer.
     Whole,
+    /// Logical.
     Truth,
+    /// Character.
     Text,
 }
 
 /// The type that is written, without its length.
-pub(crate) fn written_sort(ty: &TypeSpec) -> Sort
+pub fn written_sort(ty: &TypeSpec) -> Sort
     ensures { steps.sort_seen result ≡ kinds.written_sort ty.now }
 {
     match ty {

@@ -10,12 +10,16 @@ use ftn_tree::Role;
 
 /// What some sayings of one name say.
 #[derive(Clone, Copy)]
-pub(crate) struct Said {
+pub struct Said {
     /// Its first token where it opens, or where a procedure inside, a generic name or a construct name begins.
     opened: Option<u32>,
     /// Its first token where it may be one of the scoping unit's own.
     first: Option<u32>,
-    /// That it is a function's result (Fortran 90, 12.5.2.2).
+    /// That it is given INTENT(IN) (Fortran 90, 5.1.2.3).
+    pub given: bool,
+    /// That it is given INTENT(OUT) or INTENT(INOUT).
+    pub defined: bool,
+    /// That it is a function's result (12.5.2.2).
     pub answer: bool,
     /// That it is a member of a common block whose members get no initial values there (5.2.9).
     pub barred: bool,
@@ -44,6 +48,13 @@ fn first_of(earlier: Option<u32>, is_one: bool, token: u32) -> Option<u32>
     }
 }
 
+/// Whether it is given INTENT(OUT) or INTENT(INOUT) there.
+fn defines(s: &Saying<'_>) -> bool
+    ensures { result ≡ steps.defines s.now }
+{
+    s.said.says(Role::IntentOut) || s.said.says(Role::IntentInOut)
+}
+
 impl Said {
     /// Of no saying.
     pub fn nothing() -> Said
@@ -52,6 +63,8 @@ impl Said {
         Said {
             opened: None,
             first: None,
+            given: false,
+            defined: false,
             answer: false,
             barred: false,
         }
@@ -65,6 +78,8 @@ impl Said {
         Said {
             opened: first_of(self.opened, opens_name(s), token),
             first: first_of(self.first, may_be_own(s.said.role), token),
+            given: self.given || s.said.says(Role::IntentIn),
+            defined: self.defined || defines(s),
             answer: self.answer || s.said.says(Role::Answer),
             barred: self.barred || bars(in_block_data, s),
         }

@@ -10,7 +10,7 @@ use std::marker::Model;
 
 /// For each token of a file the entity that it denotes, where it is a name.
 #[derive(Drop)]
-pub(crate) struct TokenRow {
+pub struct TokenRow {
     of: Vec<Option<u32>>,
 }
 
@@ -91,7 +91,7 @@ fn rest_of(denotes: &[EntityId], count: usize) -> &[EntityId]
 }
 
 /// For each file what the names at its tokens denote, from what the occurrences of names denote in their order.
-pub(crate) fn token_rows(
+pub fn token_rows(
     alloc: Global,
     files: &[FileTree],
     denotes: &[EntityId],

@@ -9,16 +9,23 @@ use ftn_tree::{BoundPair, CharLength, Expr, TypeSpec};
 
 /// A type as it is written, with the entity's own length.
 #[derive(Clone, Copy)]
-pub(crate) struct Typing<'a> {
+pub struct Typing<'a> {
+    /// The token of the name where the type is written.
+    pub name: u32,
+    /// The type.
     pub ty: &'a TypeSpec,
+    /// The entity's own length.
     pub length: Option<&'a CharLength>,
 }
 
 /// What statements write for a name, of each the first.
 #[derive(Clone, Copy)]
-pub(crate) struct Written<'a> {
+pub struct Written<'a> {
+    /// The first type.
     pub typing: Option<Typing<'a>>,
+    /// The first bounds.
     pub bounds: Option<&'a [BoundPair]>,
+    /// The first value.
     pub value: Option<&'a Expr>,
 }
 
@@ -35,7 +42,7 @@ impl<'a> Written<'a> {
     }
 
     /// With what one more statement declares.
-    pub fn with(&self, declared: &Declared<'a>) -> Written<'a>
+    pub(crate) fn with(&self, declared: &Declared<'a>) -> Written<'a>
         ensures { steps.written_seen result ≡ steps.with_declared (steps.written_seen self.now) declared.now }
     {
         Written {
@@ -64,6 +71,7 @@ fn typing_in<'a>(declared: &Declared<'a>) -> Option<Typing<'a>>
 {
     match declared.ty {
         Some(ty) => Some(Typing {
+            name: declared.name,
             ty,
             length: declared.length,
         }),

@@ -13,6 +13,14 @@ use Rattle.const_value.specs.declared.said.Said.{Said}
 abbrev pub bars : Bool → Saying → Bool
 bars in_block_data s = member s && not (says role.NamedMember s.said && in_block_data)
 
+-- INTENT(IN)
+abbrev pub gives : Saying → Bool
+gives s = says role.IntentIn s.said
+
+-- INTENT(OUT) or INTENT(INOUT)
+abbrev pub defines : Saying → Bool
+defines s = says role.IntentOut s.said || says role.IntentInOut s.said
+
 abbrev pub token_of : Saying → ℕ
 token_of s = s.said.token
 
@@ -20,12 +28,14 @@ abbrev pub first_of : Option ℕ → Bool → ℕ → Option ℕ
 first_of earlier is_one token = option_or earlier (if is_one then Some token else None)
 
 abbrev pub nothing : Said
-nothing = record { opened = None; first = None; answer = false; barred = false }
+nothing = record { opened = None; first = None; given = false; defined = false; answer = false; barred = false }
 
 abbrev pub with_saying : Bool → Said → Saying → Said
 with_saying in_block_data said s = record {
   opened = first_of said.opened (opens_name s) s.said.token;
   first = first_of said.first (may_be_own s.said.role) s.said.token;
+  given = said.given || gives s;
+  defined = said.defined || defines s;
   answer = said.answer || answer s;
   barred = said.barred || bars in_block_data s;
 }
@@ -34,6 +44,8 @@ abbrev pub said_in : Bool → List Saying → Said
 said_in in_block_data all = record {
   opened = option_map token_of (find opens_name all);
   first = option_map token_of (find (λ s. may_be_own s.said.role) all);
+  given = is_said gives all;
+  defined = is_said defines all;
   answer = is_said answer all;
   barred = is_said (bars in_block_data) all;
 }

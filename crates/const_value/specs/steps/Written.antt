@@ -1,5 +1,5 @@
 -- What statements write for a name, of each the first. It serves the proof alone.
-use Rattle.std.specs.Prelude.{List, [], slice_get, Option, None}
+use Rattle.std.specs.Prelude.{ℕ, List, [], slice_get, Option, None}
 use Rattle.std.specs.List.{filter_map}
 use Rattle.std.specs.Option.{option_map, option_or, option_copied, unwrap_or}
 use Rattle.ftn_tree.specs.declared.expr.Expr.{Expr}
@@ -12,8 +12,9 @@ use Rattle.ftn_tree.specs.KeyKinds.{Datum}
 use Rattle.const_value.specs.declared.written.Typing.{Typing}
 use Rattle.const_value.specs.declared.written.Written.{Written}
 
--- a type as it is written, with the entity's own length
+-- a type as it is written, with the entity's own length, and the token of the name
 pub record TypedAs : Type 0 where
+  pub name : ℕ
   pub ty : TypeSpec
   pub length : Option CharLength
 
@@ -26,18 +27,18 @@ pub record WrittenAs : Type 0 where
 -- ---- what the code keeps
 
 abbrev pub typing_seen : Typing → TypedAs
-typing_seen t = record { ty = t.ty.now; length = option_copied t.length }
+typing_seen t = record { name = t.name; ty = t.ty.now; length = option_copied t.length }
 
 abbrev pub written_seen : Written → WrittenAs
 written_seen w = record { typing = option_map typing_seen w.typing; bounds = option_copied w.bounds; value = option_copied w.value }
 
 -- ---- one statement after the other
 
-abbrev pub typed_as : Option CharLength → TypeSpec → TypedAs
-typed_as length ty = record { ty = ty; length = length }
+abbrev pub typed_as : ℕ → Option CharLength → TypeSpec → TypedAs
+typed_as name length ty = record { name = name; ty = ty; length = length }
 
 abbrev pub typing_in : Declared → Option TypedAs
-typing_in d = option_map (typed_as d.length) d.ty
+typing_in d = option_map (typed_as d.name d.length) d.ty
 
 abbrev pub nothing : WrittenAs
 nothing = record { typing = None; bounds = None; value = None }
