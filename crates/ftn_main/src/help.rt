@@ -26,11 +26,11 @@ Anywhere after the first word of check or apply may stand, once,
 
 The project is every regular file of the folder whose name ends in .f90 and has
 only bytes from 33 to 126. What else ends in .f90, links among it, is left out;
-standard error tells each. The files are read, then their declarations, and the
-first fault is told. What names denote, types, constants and storage are not
-looked at yet. This version changes projects of one file with one main program
-of integer scalars, assignments and `print *`; for any other project without a
-fault `apply` answers `fault NotBuilt -`.
+standard error tells each. The files are read, then their declarations, names,
+constants and shapes are looked at, and the first fault is told. Types and
+storage are not looked at yet. This version changes projects of one file with
+one main program of integer scalars, assignments and `print *`; for any other
+project without a fault `apply` answers `fault NotBuilt -`.
 
 Output, one line, and exit codes:
   0  ok F files, U units       no fault was found
