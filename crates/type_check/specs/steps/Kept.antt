@@ -1,0 +1,60 @@
+-- What the code keeps of types, procedures and expressions, by the definitions. It serves the proof alone.
+use Rattle.std.specs.Prelude.{ℕ, ◌+◌, ◌*◌, List, map, Option}
+use Rattle.std.specs.Option.{option_map}
+use Rattle.ftn_tree.specs.KeyKinds as kinds
+use Rattle.ftn_tree.specs.Procedures as procedures
+use Rattle.ftn_tree.specs.ExpressionTypes as spec
+use Rattle.ftn_tree.specs.TypeFaults.{type_rank}
+use Rattle.const_expr.specs.FirstTold.{soonest}
+use Rattle.const_value.specs.steps.Projects.{sort_seen}
+use Rattle.type_check.specs.declared.kinds.Kind.{Kind}
+use Rattle.type_check.specs.declared.kinds.Formal.{Formal}
+use Rattle.type_check.specs.declared.kinds.Signature.{Signature}
+use Rattle.type_check.specs.declared.typed.Told.{Told}
+use Rattle.type_check.specs.declared.typed.Standing.{Standing}
+use Rattle.type_check.specs.declared.typed.Typed.{Typed}
+
+abbrev pub kind_seen : Kind → kinds.Kind
+kind_seen k = kinds.kind (sort_seen k.sort) k.rank
+
+abbrev pub formal_seen : Formal → procedures.Formal
+formal_seen f = record { kind = option_map kind_seen f.kind; out = f.out }
+
+abbrev pub signature_seen : Signature → procedures.Signature
+signature_seen s = record { procedure = s.procedure; formals = map formal_seen s.formals.items; function = s.function; result = option_map kind_seen s.result }
+
+-- ---- the first of what is told: by the token, and then by the kind
+
+abbrev pub told_key : spec.Told → ℕ
+told_key (what, token) = token * 8 + type_rank what
+
+abbrev pub first_told : List spec.Told → Option spec.Told
+first_told told = soonest told_key told
+
+abbrev pub told_seen : Told → spec.Told
+told_seen t = (t.kind, t.token)
+
+-- ---- expressions
+
+-- an expression by the first of what is told of it
+pub record Sight : Type 0 where
+  pub first : ℕ
+  pub kind : Option kinds.Kind
+  pub told : Option spec.Told
+  pub passed : Option spec.Told
+  pub standing : spec.Standing
+
+abbrev pub standing_seen : Standing → spec.Standing
+standing_seen s = spec.standing s.reference s.element s.datum s.definable
+
+abbrev pub typed_seen : Typed → Sight
+typed_seen t = record {
+  first = t.first;
+  kind = option_map kind_seen t.kind;
+  told = option_map told_seen t.told;
+  passed = option_map told_seen t.passed;
+  standing = standing_seen t.standing;
+}
+
+abbrev pub seen : spec.Typed → Sight
+seen t = record { first = t.first; kind = t.kind; told = first_told t.told; passed = first_told t.passed; standing = t.standing }
