@@ -9,9 +9,9 @@ use Rattle.ftn_tree.specs.KeyKinds.{Kind}
 use Rattle.ftn_tree.specs.Procedures.{Formal, Signature}
 use Rattle.ftn_tree.specs.ExpressionTypes as spec
 use Rattle.ftn_tree.specs.ExpressionTypes.{Told, Typed}
-use Rattle.type_check.specs.declared.kinds.Signature as kept
+use Rattle.name_types.specs.declared.kinds.Signature as kept
 use Rattle.type_check.specs.steps.Kept.{Sight, first_told, seen}
-use Rattle.type_check.specs.steps.Senses.{signature_at, specifics_by}
+use Rattle.name_types.specs.steps.Senses.{signature_at, specifics_by}
 use Rattle.type_check.specs.steps.Sights as sights
 use Rattle.type_check.specs.steps.Sights.{Choice, Unknown, NoneFits, One, Several, choice_among, chosen_among, choice_with, if_fits, have_kinds, choice, are_exact, is_exact}
 

@@ -21,7 +21,7 @@ use Rattle.ftn_tree.specs.DeclarationFaults.{Finding}
 use Rattle.ftn_tree.specs.ExpressionTypes.{if_told}
 use Rattle.ftn_tree.specs.KeyKinds.{key_at}
 use Rattle.ftn_tree.specs.Sorts.{Whole, is_sort}
-use Rattle.type_check.specs.declared.names.Setting.{Setting}
+use Rattle.name_types.specs.declared.names.Setting.{Setting}
 use Rattle.type_check.specs.steps.DataBy as steps
 use Rattle.type_check.specs.steps.DataRight.{IsDataRight}
 use Rattle.type_check.specs.steps.Noted.{noted}

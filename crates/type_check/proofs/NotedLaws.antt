@@ -1,5 +1,5 @@
 -- What is told of a list's elements, one element after the other, by the first of it.
-use Rattle.std.proofs.Common.{◌≡◌, ℕ, ◌+◌, ◌*◌, ◌<◌, Bool, true, false, cond, List, [], ◌∷◌, ◌++◌, map, length, take, get_or, Option, Some, None, option_map, refl, sym, ap, ◌∙◌, arith, append-nil}
+use Rattle.std.proofs.Common.{◌≡◌, ℕ, ◌+◌, ◌*◌, ◌<◌, Bool, true, false, cond, List, [], ◌∷◌, ◌++◌, map, length, take, get_or, Option, Some, None, refl, sym, ap, ◌∙◌, arith, append-nil}
 use Rattle.std.specs.Prelude.{◌&&◌, ◌||◌, ◌==◌, nat_lt}
 use Rattle.std.specs.List.{flat_map}
 use Rattle.std.proofs.lemmas.Bool.Decides.{nat_tests}
@@ -11,7 +11,7 @@ use Rattle.ftn_tree.specs.DeclarationFaults.{Finding, found, before_in_place}
 use Rattle.ftn_tree.specs.ExpressionTypes.{Told, if_told}
 use Rattle.ftn_tree.specs.GlobalNames.{place}
 use Rattle.ftn_tree.specs.TypeFaults.{finding, type_rank}
-use Rattle.const_expr.specs.FirstTold.{sooner, soonest}
+use Rattle.const_expr.specs.FirstTold.{sooner}
 use Rattle.type_check.specs.steps.Findings.{earlier, gathered, told_if}
 use Rattle.type_check.specs.steps.Kept.{first_told, told_key}
 use Rattle.type_check.specs.steps.Noted.{noted, told_found}

@@ -51,13 +51,13 @@ use Rattle.const_value.proofs.NoFindings.{shaped}
 use Rattle.const_value.proofs.RealKeys.{IsUnit}
 use Rattle.const_value.proofs.TiedNames.{entity_there, name_number_there}
 use Rattle.const_value.proofs.VariablesThere.{are_variables, own_parts, passes, token_kind}
-use Rattle.type_check.specs.declared.names.Naming.{Naming as KeptNaming}
-use Rattle.type_check.specs.declared.names.Setting.{Setting}
+use Rattle.name_types.specs.declared.names.Naming.{Naming as KeptNaming}
+use Rattle.name_types.specs.declared.names.Setting.{Setting}
 use Rattle.type_check.specs.steps.DataBy as steps
 use Rattle.type_check.specs.steps.DataBy.{entity_at}
 use Rattle.type_check.specs.steps.DataRight.{IsDataRight}
-use Rattle.type_check.specs.steps.Gathered.{AreNames, HasNaming}
-use Rattle.type_check.specs.steps.Senses as senses
+use Rattle.name_types.specs.steps.Gathered.{AreNames, HasNaming}
+use Rattle.name_types.specs.steps.Senses as senses
 
 -- ---- a name of which nothing is told as a constant's is one
 

@@ -10,9 +10,9 @@ use Rattle.ftn_tree.specs.Procedures.{Sense}
 use Rattle.ftn_tree.specs.ExpressionTypes as spec
 use Rattle.ftn_tree.specs.ExpressionTypes.{Typed, typed, typed_args, typed_all, typed_section, typed_end, reference_typed}
 use Rattle.ftn_tree.proofs.Inverse.{args_tree, list_tree, part_tree, tree_whole, tree_truth, tree_quoted, tree_paren, tree_unary, tree_binary, tree_refer}
-use Rattle.type_check.specs.declared.names.Setting.{Setting}
+use Rattle.name_types.specs.declared.names.Setting.{Setting}
 use Rattle.type_check.specs.steps.Kept.{Sight, seen}
-use Rattle.type_check.specs.steps.Senses.{sense_by}
+use Rattle.name_types.specs.steps.Senses.{sense_by}
 use Rattle.type_check.specs.steps.Sights as sights
 use Rattle.type_check.specs.steps.Sights.{range_seen}
 use Rattle.type_check.specs.steps.Typing.{typed_by, given_by, range_by, referred, arguments_by}

@@ -1,21 +1,18 @@
 -- Definitions that serve proofs of the code alone; no public clause cites them.
+pub mod Calling
 pub mod Choices
 pub mod Constants
 pub mod DataBy
 pub mod DataRight
 pub mod DataRuns
-pub mod Declaring
+pub mod Declared
 pub mod Findings
-pub mod Gathered
-pub mod Generics
-pub mod Index
 pub mod Kept
 pub mod Natures
-pub mod Namings
 pub mod Noted
 pub mod Ranges
 pub mod SaidNames
-pub mod Senses
 pub mod Sights
-pub mod Signatures
+pub mod Stated
 pub mod Typing
+pub mod Walking

@@ -3,12 +3,13 @@
 ghost use Rattle.std.specs.Prelude.{◌≡◌, List, map, IfOk};
 ghost use Rattle.std.specs.Option.{option_map};
 ghost use Rattle.ftn_tree.specs.ExpressionTypes as spec;
-ghost use Rattle.type_check.specs.steps.Kept.{first_told, formal_seen, kind_seen, seen, signature_seen, told_seen, typed_seen};
+ghost use Rattle.name_types.specs.steps.Kinds.{formal_seen, kind_seen, signature_seen};
+ghost use Rattle.type_check.specs.steps.Kept.{first_told, seen, told_seen, typed_seen};
 ghost use Rattle.type_check.specs.steps.Sights as sights;
 
-use crate::kinds::{Formal, Kind, Signature, same_sort};
 use crate::typed::{Told, Typed, kind_if, sooner, told_where};
 use ftn_base::{FaultKind, NoMemory};
+use name_types::kinds::{Formal, Kind, Signature, same_sort};
 use std::alloc::Global;
 
 /// Whether it is an expression of an array that is no reference.

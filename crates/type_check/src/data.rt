@@ -16,9 +16,9 @@ use crate::data_objects::{is_object, object_of};
 use crate::data_runs::{Run, Walk, is_wrong};
 use crate::data_values::{supply_of, value_faults};
 use crate::faults::Faults;
-use crate::names::Setting;
 use ftn_base::FaultKind;
 use ftn_tree::{DataGroup, DataValue, Designator};
+use name_types::names::Setting;
 
 /// What names no variable that DATA may give values.
 fn object_fault(setting: &Setting<'_>, object: &Designator, faults: &mut Faults)

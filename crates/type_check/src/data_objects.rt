@@ -7,12 +7,12 @@ ghost use Rattle.ftn_tree.specs.DataTypes as types;
 ghost use Rattle.const_value.specs.steps.Giving as giving;
 ghost use Rattle.const_value.specs.steps.Projects.{sort_seen};
 ghost use Rattle.type_check.specs.steps.DataBy as steps;
-ghost use Rattle.type_check.specs.steps.Senses.{lent};
+ghost use Rattle.name_types.specs.steps.Senses.{lent};
 
-use crate::names::Setting;
 use const_value::project::{Project, Sort};
 use ftn_base::Shape;
 use ftn_tree::{Designator, EntityKind};
+use name_types::names::Setting;
 
 /// So many elements of a variable, where that is known, and their type. A number that is too large for 128 bits counts as the greatest
 /// one.

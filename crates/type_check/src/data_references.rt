@@ -3,15 +3,16 @@
 ghost use Rattle.std.specs.Prelude.{◌≡◌};
 ghost use Rattle.std.specs.Option.{option_map};
 ghost use Rattle.ftn_tree.specs.ExpressionTypes as spec;
-ghost use Rattle.type_check.specs.steps.Kept.{kind_seen, told_seen, typed_seen};
+ghost use Rattle.name_types.specs.steps.Kinds.{kind_seen};
+ghost use Rattle.type_check.specs.steps.Kept.{told_seen, typed_seen};
 ghost use Rattle.type_check.specs.steps.Ranges.{given_seen, range_kept};
 ghost use Rattle.type_check.specs.steps.Sights as sights;
 
 use crate::arguments::{all_passed, all_wanted};
-use crate::kinds::Kind;
 use crate::typed::{Standing, Told, Typed, kind_if, sooner, told_where};
 use const_value::project::Sort;
 use ftn_base::FaultKind;
+use name_types::kinds::Kind;
 
 /// The ends of a substring range, as far as they are written.
 #[derive(Clone, Copy)]

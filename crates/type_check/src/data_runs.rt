@@ -9,9 +9,9 @@ ghost use Rattle.type_check.specs.steps.DataBy as steps;
 ghost use Rattle.type_check.specs.steps.DataRuns.{AreWalked, run_seen};
 
 use crate::data_objects::{Object, object_of};
-use crate::names::Setting;
 use const_value::project::Sort;
 use ftn_tree::Designator;
+use name_types::names::Setting;
 
 /// So many values on end, from that position of the group on.
 #[derive(Clone, Copy)]

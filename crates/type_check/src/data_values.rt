@@ -8,13 +8,13 @@ ghost use Rattle.ftn_tree.specs.declared.value.Value.TheVariants as value;
 ghost use Rattle.const_value.specs.steps.Projects.{sort_seen};
 ghost use Rattle.type_check.specs.steps.DataBy as steps;
 ghost use Rattle.type_check.specs.steps.Noted.{first_seen, noted};
-ghost use Rattle.type_check.specs.steps.Senses.{lent};
+ghost use Rattle.name_types.specs.steps.Senses.{lent};
 
 use crate::faults::Faults;
-use crate::names::Setting;
 use const_value::project::Sort;
 use ftn_base::FaultKind;
 use ftn_tree::{DataConstant, DataValue, Repeat, Value};
+use name_types::names::Setting;
 
 /// A value, so often, where that is known, and its type.
 #[derive(Clone, Copy)]

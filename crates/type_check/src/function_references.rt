@@ -6,7 +6,8 @@ ghost use Rattle.ftn_tree.specs.ExpressionTypes as spec;
 ghost use Rattle.ftn_tree.specs.Intrinsics as intrinsics;
 ghost use Rattle.const_value.specs.steps.Projects.{sort_seen};
 ghost use Rattle.type_check.specs.steps.Choices.{choice_kept};
-ghost use Rattle.type_check.specs.steps.Kept.{kind_seen, signature_seen, told_seen, typed_seen};
+ghost use Rattle.name_types.specs.steps.Kinds.{kind_seen, signature_seen};
+ghost use Rattle.type_check.specs.steps.Kept.{told_seen, typed_seen};
 ghost use Rattle.type_check.specs.steps.Ranges.{range_kept};
 ghost use Rattle.type_check.specs.steps.Sights as sights;
 
@@ -15,11 +16,11 @@ use crate::arguments::{
 };
 use crate::data_references::{Range, range_passed, range_told};
 use crate::generic_references::{Choice, choice_told};
-use crate::kinds::{Kind, Signature};
 use crate::typed::{Standing, Told, Typed, kind_if, sooner, told_where};
 use const_value::project::Sort;
 use ftn_base::FaultKind;
 use ftn_tree::Intrinsic;
+use name_types::kinds::{Kind, Signature};
 
 /// What is told of a function reference with a range behind it, where that is told without it.
 fn call_told(name: u32, told: Option<Told>, range: &Option<Range>) -> Option<Told>

@@ -4,13 +4,14 @@ ghost use Rattle.std.specs.Prelude.{◌≡◌, List, map};
 ghost use Rattle.std.specs.Option.{option_and_then, option_copied, option_map, option_map_or};
 ghost use Rattle.ftn_tree.specs.ExpressionTypes as spec;
 ghost use Rattle.type_check.specs.steps.Choices.{choice_kept};
-ghost use Rattle.type_check.specs.steps.Kept.{first_told, formal_seen, kind_seen, seen, signature_seen, told_seen, typed_seen};
-ghost use Rattle.type_check.specs.steps.Senses.{signature_at, specifics_by};
+ghost use Rattle.name_types.specs.steps.Kinds.{formal_seen, kind_seen, signature_seen};
+ghost use Rattle.type_check.specs.steps.Kept.{first_told, seen, told_seen, typed_seen};
+ghost use Rattle.name_types.specs.steps.Senses.{signature_at, specifics_by};
 ghost use Rattle.type_check.specs.steps.Sights as sights;
 
-use crate::kinds::{Formal, Kind, Signature};
 use crate::typed::{Told, Typed};
 use ftn_base::FaultKind;
+use name_types::kinds::{Formal, Kind, Signature};
 
 /// Which specific procedure fits.
 #[derive(Clone, Copy)]

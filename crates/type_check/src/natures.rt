@@ -11,12 +11,12 @@ ghost use Rattle.const_value.specs.steps.References.{file_of};
 ghost use Rattle.const_value.specs.steps.Written.{typing_seen};
 ghost use Rattle.type_check.specs.steps.Natures as steps;
 
-use crate::kinds::same_sort;
 use const_expr::{Naming, Setting, evaluate};
 use const_value::project::{Project, Sort};
 use const_value::written::Typing;
 use ftn_base::{Length, Letter, NoMemory, Ty};
 use ftn_tree::{CharLength, Expr, LengthSelector, LengthValue, TypeSpec, Value};
+use name_types::kinds::same_sort;
 use std::alloc::Global;
 
 /// A type with its length, where that is constant, and a rank.

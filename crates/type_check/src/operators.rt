@@ -6,14 +6,15 @@ ghost use Rattle.ftn_tree.specs.ExpressionTypes as spec;
 ghost use Rattle.ftn_tree.specs.KeyKinds as kinds;
 ghost use Rattle.ftn_tree.specs.Sorts as sorts;
 ghost use Rattle.const_value.specs.steps.Projects.{sort_seen};
-ghost use Rattle.type_check.specs.steps.Kept.{kind_seen, told_seen, typed_seen};
+ghost use Rattle.name_types.specs.steps.Kinds.{kind_seen};
+ghost use Rattle.type_check.specs.steps.Kept.{told_seen, typed_seen};
 ghost use Rattle.type_check.specs.steps.Sights as sights;
 
-use crate::kinds::{Kind, same_sort};
 use crate::typed::{Standing, Told, Typed, sooner, told_where};
 use const_value::project::Sort;
 use ftn_base::FaultKind;
 use ftn_tree::Operator;
+use name_types::kinds::{Kind, same_sort};
 
 /// Whether an operator is a relation.
 fn is_relation(operator: Operator) -> bool

@@ -5,17 +5,17 @@ ghost use Rattle.std.specs.Option.{option_map};
 ghost use Rattle.ftn_tree.specs.ExpressionTypes as spec;
 ghost use Rattle.type_check.specs.steps.Kept.{seen, told_seen, typed_seen};
 ghost use Rattle.type_check.specs.steps.Ranges.{given_seen, range_kept};
-ghost use Rattle.type_check.specs.steps.Senses.{sense_seen};
+ghost use Rattle.name_types.specs.steps.Senses.{sense_seen};
 ghost use Rattle.type_check.specs.steps.Sights as sights;
 
 use crate::arguments::{all_arguments_told, all_passed, arguments};
 use crate::data_references::{Range, data_typed, given_passed, range_passed, range_told};
 use crate::function_references::{function_typed, generic_typed, intrinsic_typed};
 use crate::generic_references::choose;
-use crate::kinds::Sense;
 use crate::typed::{Standing, Told, Typed, sooner};
 use ftn_base::{FaultKind, NoMemory};
 use ftn_tree::Intrinsic;
+use name_types::kinds::Sense;
 use std::alloc::Global;
 
 /// A function in itself: a call, of a name that is also its result's.

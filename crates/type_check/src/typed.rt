@@ -2,13 +2,14 @@
 
 ghost use Rattle.std.specs.Prelude.{◌≡◌, true, false};
 ghost use Rattle.std.specs.Option.{option_map};
-ghost use Rattle.type_check.specs.steps.Kept.{told_key, told_seen, standing_seen, kind_seen, typed_seen};
+ghost use Rattle.name_types.specs.steps.Kinds.{kind_seen};
+ghost use Rattle.type_check.specs.steps.Kept.{told_key, told_seen, standing_seen, typed_seen};
 ghost use Rattle.ftn_tree.specs.ExpressionTypes as spec;
 ghost use Rattle.type_check.specs.steps.Sights as sights;
 
 use crate::finding::rank;
-use crate::kinds::Kind;
 use ftn_base::FaultKind;
+use name_types::kinds::Kind;
 
 /// A fault and its token.
 #[derive(Clone, Copy)]

@@ -6,19 +6,19 @@ ghost use Rattle.ftn_tree.specs.ExpressionTypes as spec;
 ghost use Rattle.ftn_tree.specs.Trees.{tree_of};
 ghost use Rattle.type_check.specs.steps.Kept.{seen, typed_seen};
 ghost use Rattle.type_check.specs.steps.Ranges.{given_seen, range_kept};
-ghost use Rattle.type_check.specs.steps.Senses.{sense_by};
+ghost use Rattle.name_types.specs.steps.Senses.{sense_by};
 ghost use Rattle.type_check.specs.steps.Sights as sights;
 ghost use Rattle.type_check.specs.steps.Typing as steps;
 
 use crate::arguments::arguments;
 use crate::data_references::Range;
-use crate::kinds::Kind;
-use crate::names::Setting;
 use crate::operators::{binary_typed, in_parens, unary_typed};
 use crate::references::reference_typed;
 use crate::typed::Typed;
 use ftn_base::NoMemory;
 use ftn_tree::{Expr, Part};
+use name_types::kinds::Kind;
+use name_types::names::Setting;
 use sqlite_items::{Boxed, Items};
 use std::alloc::Global;
 

@@ -1,7 +1,7 @@
 -- Which specific procedure of a generic name is meant, by what the code keeps. It serves the proof alone.
 use Rattle.type_check.specs.declared.generic_references.Choice.{Choice}
 use Rattle.type_check.specs.declared.generic_references.Choice.TheVariants as kept
-use Rattle.type_check.specs.steps.Kept.{signature_seen}
+use Rattle.name_types.specs.steps.Kinds.{signature_seen}
 use Rattle.type_check.specs.steps.Sights as sights
 
 abbrev pub choice_kept : Choice → sights.Choice

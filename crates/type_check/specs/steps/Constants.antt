@@ -1,5 +1,5 @@
 -- What entities are in constant expressions, by what is known of them as values. It serves the proof alone.
-use Rattle.std.specs.Prelude.{ℕ, ℤ, if◌then◌else◌, List, length, map, slice_get, Option, Some, None}
+use Rattle.std.specs.Prelude.{ℕ, ℤ, if◌then◌else◌, List, length, map, Option, Some, None}
 use Rattle.std.specs.List.{list_any, range_with_len}
 use Rattle.std.specs.Option.{option_map_or, option_and_then}
 use Rattle.ftn_base.specs.declared.entity.Shape.{Shape}

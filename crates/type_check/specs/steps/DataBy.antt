@@ -19,9 +19,9 @@ use Rattle.ftn_tree.specs.Sorts.{Sort, Whole, Truth, Text, is_sort}
 use Rattle.const_expr.specs.Namings.{entity_in}
 use Rattle.const_value.specs.steps.Giving.{is_object}
 use Rattle.const_value.specs.steps.Projects.{row_in}
-use Rattle.type_check.specs.declared.names.Naming.{Naming}
-use Rattle.type_check.specs.declared.names.Setting.{Setting}
-use Rattle.type_check.specs.steps.Senses.{naming_at, sort_by, sort_of}
+use Rattle.name_types.specs.declared.names.Naming.{Naming}
+use Rattle.name_types.specs.declared.names.Setting.{Setting}
+use Rattle.name_types.specs.steps.Senses.{naming_at, sort_by, sort_of}
 
 abbrev pub entity_at : Setting → ℕ → Option ℕ
 entity_at s token = entity_in (row_in s.names.now.project.now.rows.items s.file) token

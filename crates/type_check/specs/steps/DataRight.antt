@@ -7,9 +7,9 @@ use Rattle.ftn_tree.specs.ConstantFaults.{name_told}
 use Rattle.ftn_tree.specs.DataTypes.{is_object, sort_named, value_named}
 use Rattle.ftn_tree.specs.KeyKinds.{datum_of, key_at, sort_of}
 use Rattle.ftn_tree.specs.Shapes.{shape_of}
-use Rattle.type_check.specs.declared.names.Setting.{Setting}
+use Rattle.name_types.specs.declared.names.Setting.{Setting}
 use Rattle.type_check.specs.steps.DataBy.{object_by, scalar_by, shape_by, value_by}
-use Rattle.type_check.specs.steps.Senses.{sort_by}
+use Rattle.name_types.specs.steps.Senses.{sort_by}
 
 pub record IsDataRight (files : List FileTree) (e : Extent) (s : Setting) : Type 0 where
   pub file : s.file ≡ e.file

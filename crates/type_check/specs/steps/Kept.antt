@@ -1,27 +1,14 @@
 -- What the code keeps of types, procedures and expressions, by the definitions. It serves the proof alone.
-use Rattle.std.specs.Prelude.{ℕ, ◌+◌, ◌*◌, List, map, Option}
+use Rattle.std.specs.Prelude.{ℕ, ◌+◌, ◌*◌, List, Option}
 use Rattle.std.specs.Option.{option_map}
 use Rattle.ftn_tree.specs.KeyKinds as kinds
-use Rattle.ftn_tree.specs.Procedures as procedures
 use Rattle.ftn_tree.specs.ExpressionTypes as spec
 use Rattle.ftn_tree.specs.TypeFaults.{type_rank}
 use Rattle.const_expr.specs.FirstTold.{soonest}
-use Rattle.const_value.specs.steps.Projects.{sort_seen}
-use Rattle.type_check.specs.declared.kinds.Kind.{Kind}
-use Rattle.type_check.specs.declared.kinds.Formal.{Formal}
-use Rattle.type_check.specs.declared.kinds.Signature.{Signature}
+use Rattle.name_types.specs.steps.Kinds.{kind_seen}
 use Rattle.type_check.specs.declared.typed.Told.{Told}
 use Rattle.type_check.specs.declared.typed.Standing.{Standing}
 use Rattle.type_check.specs.declared.typed.Typed.{Typed}
-
-abbrev pub kind_seen : Kind → kinds.Kind
-kind_seen k = kinds.kind (sort_seen k.sort) k.rank
-
-abbrev pub formal_seen : Formal → procedures.Formal
-formal_seen f = record { kind = option_map kind_seen f.kind; out = f.out }
-
-abbrev pub signature_seen : Signature → procedures.Signature
-signature_seen s = record { procedure = s.procedure; formals = map formal_seen s.formals.items; function = s.function; result = option_map kind_seen s.result }
 
 -- ---- the first of what is told: by the token, and then by the kind
 

@@ -1,5 +1,5 @@
 -- What is told, as findings of a file. It serves the proof alone.
-use Rattle.std.specs.Prelude.{◌≡◌, ℕ, List, map, Option}
+use Rattle.std.specs.Prelude.{ℕ, List, map, Option}
 use Rattle.std.specs.Option.{option_map}
 use Rattle.ftn_tree.specs.DeclarationFaults.{Finding}
 use Rattle.ftn_tree.specs.ExpressionTypes as spec

@@ -5,9 +5,9 @@ use Rattle.ftn_tree.specs.declared.expr.Expr.{Expr}
 use Rattle.ftn_tree.specs.declared.expr.Part.{Part, fold-Part}
 use Rattle.ftn_tree.specs.Trees.{Tree, Section, end_of, section_of, tree_step, part_step, tree_of}
 use Rattle.ftn_tree.specs.ExpressionTypes as spec
-use Rattle.type_check.specs.declared.names.Setting.{Setting}
+use Rattle.name_types.specs.declared.names.Setting.{Setting}
 use Rattle.type_check.specs.steps.Kept.{Sight}
-use Rattle.type_check.specs.steps.Senses.{sense_by}
+use Rattle.name_types.specs.steps.Senses.{sense_by}
 use Rattle.type_check.specs.steps.Sights as sights
 
 abbrev pub typed_by : Setting → Expr → spec.Typed

@@ -1,5 +1,5 @@
 use Rattle.std.proofs.Common.{sym, ◌∙◌, ap}
-use Rattle.type_check.specs.steps.Kept.{signature_seen}
+use Rattle.name_types.specs.steps.Kinds.{signature_seen}
 use Rattle.type_check.specs.steps.Sights as sights
 use Rattle.type_check.proofs.SightLaws.{misfits_seen}
 use Rattle.type_check.proofs.arguments.misfits.Goals as goal

@@ -1,7 +1,8 @@
 use Rattle.std.proofs.Common.{map}
 use Rattle.std.specs.Option.{option_copied, option_map}
 use Rattle.type_check.specs.steps.Choices.{choice_kept}
-use Rattle.type_check.specs.steps.Kept.{signature_seen, typed_seen}
+use Rattle.name_types.specs.steps.Kinds.{signature_seen}
+use Rattle.type_check.specs.steps.Kept.{typed_seen}
 use Rattle.type_check.proofs.ChoiceLaws.{turn}
 use Rattle.type_check.proofs.generic_references.choice_among.Goals as goal
 

@@ -1,7 +1,7 @@
 use Rattle.std.proofs.Common.{◌≡◌, map, take}
 use Rattle.type_check.specs.steps.Choices.{choice_kept}
 use Rattle.type_check.specs.steps.Kept.{typed_seen}
-use Rattle.type_check.specs.steps.Senses.{specifics_by}
+use Rattle.name_types.specs.steps.Senses.{specifics_by}
 use Rattle.type_check.specs.steps.Sights.{chosen_among}
 use Rattle.type_check.proofs.generic_references.choice_among.Given as goal
 

@@ -1,5 +1,5 @@
 use Rattle.std.proofs.Common.{sym, ◌∙◌, ap}
-use Rattle.type_check.specs.steps.Senses.{specifics_by}
+use Rattle.name_types.specs.steps.Senses.{specifics_by}
 use Rattle.type_check.specs.steps.Sights as sights
 use Rattle.type_check.proofs.ChoiceLaws.{meant_seen}
 use Rattle.type_check.proofs.generic_references.meant.Goals as goal

@@ -1,5 +1,5 @@
 use Rattle.std.proofs.Common.{sym, ◌∙◌, None}
-use Rattle.type_check.specs.steps.Senses.{sense_seen}
+use Rattle.name_types.specs.steps.Senses.{sense_seen}
 use Rattle.type_check.proofs.ReferenceLaws.{reference_seen}
 use Rattle.type_check.proofs.references.name_typed.Goals as goal
 

@@ -1,0 +1,7 @@
+use Rattle.std.proofs.Common.{◌≡◌, ◌++◌, take}
+use Rattle.std.specs.List.{flat_map}
+use Rattle.ftn_tree.specs.Extents.{extents_in}
+use Rattle.name_types.proofs.extents.+push_unit.Given as goal
+
+abbrev pub invariant-loop-inner : goal.invariant-loop-inner
+invariant-loop-inner l = l.found.items ≡ l.initial.found.items ++ flat_map (extents_in l.file) (take l.inner-index l.inner-items)

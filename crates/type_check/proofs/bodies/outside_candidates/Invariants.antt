@@ -1,7 +1,0 @@
-use Rattle.std.proofs.Common.{◌≡◌, map, take}
-use Rattle.ftn_tree.specs.Extents.{scoping}
-use Rattle.type_check.specs.steps.Generics.{outside_candidate}
-use Rattle.type_check.proofs.bodies.outside_candidates.Given as goal
-
-abbrev pub invariant-loop-at : goal.invariant-loop-at
-invariant-loop-at l = l.made.items ≡ map (outside_candidate l.files) (take l.at (scoping l.files))

@@ -1,9 +1,0 @@
-use Rattle.std.proofs.Common.{◌∙◌, sym, length}
-use Rattle.type_check.proofs.HostWalks.{climbs}
-use Rattle.type_check.proofs.names.is_within.Goals as goal
-
-pub loop-preserved : goal.loop-preserved
-loop-preserved c =
-    c.loop.invariant
-    ∙ climbs c.args.hosts.now c.args.outer c.loop.at c.in-Some.host (length c.args.hosts.now) c.loop.counter c.loop-test.true c.if-at-outer.false
-    (sym c.in-Some.is ∙ c.host_of.ensures)
